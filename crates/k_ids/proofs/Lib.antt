@@ -1,0 +1,4 @@
+pub mod StateSpelled
+pub mod LockSpelled
+pub mod ContextSpelled
+pub mod MessagePacked

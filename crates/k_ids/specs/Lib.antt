@@ -1,0 +1,4 @@
+pub mod Messages
+pub mod StateWords
+pub mod LockWords
+pub mod ContextWords

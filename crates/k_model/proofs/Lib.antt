@@ -1,0 +1,11 @@
+pub mod Maps
+pub mod Lists
+pub mod Sound
+pub mod Opening
+pub mod Answered
+pub mod Listed
+pub mod Ranged
+pub mod Replays
+pub mod Spent
+pub mod Places
+pub mod Kept

@@ -1,0 +1,9 @@
+pub mod Maps
+pub mod State
+pub mod Step
+pub mod History
+pub mod Sound
+pub mod Effort
+pub mod Answers
+pub mod Keeps
+pub mod Ranges

@@ -1,0 +1,83 @@
+// Two worked histories, event by event.
+ghost use Rattle.k_ids.specs.declared.calls.Act.TheVariants as act;
+ghost use Rattle.k_ids.specs.declared.calls.Phase.TheVariants as phase;
+ghost use Rattle.std.specs.Prelude.{false, ◌≡◌};
+
+use crate::machine::Machine;
+use k_ids::{Act, Event, Found, Message, Outcome, Phase, Reply, Status, ThreadId, Unlawful};
+
+fn id(number: u8, version: u32) -> ThreadId
+    ensures { result.number ≡ number }
+{
+    ThreadId { number, version }
+}
+
+fn event(who: ThreadId, serial: u32, act: Act) -> Event
+    ensures { result ≡ record { who = who; serial = serial; act = act } }
+{
+    Event { who, serial, act }
+}
+
+fn send(to: ThreadId, low: u32, high: u32) -> Act
+    ensures { result ≡ act.Call (phase.Send to (record { low = low; high = high }) false false) }
+{
+    let message = Message { low, high };
+    let (zero, joined) = (false, false);
+    let phase = Phase::Send {
+        to,
+        message,
+        zero,
+        joined,
+    };
+    Act::Call { phase }
+}
+
+#[test]
+fn a_number_is_used_again(rt: HostRuntime) {
+    let phase = Phase::Destroy { who: id(1, 1) };
+    let destroy = Act::Call { phase };
+    let phase = Phase::Create {
+        program: 0,
+        priority: 5,
+    };
+    let create = Act::Call { phase };
+    let booted = Machine::boot(rt.alloc(), &[0, 0], 2, 3);
+    let mut machine = booted.expect(&rt, "memory for two threads");
+    let killed = machine.step(event(id(0, 1), 1, destroy));
+    assert!(rt; killed == Ok(Outcome::Killed));
+    let made = machine.step(event(id(0, 1), 2, create));
+    assert!(rt; made == Ok(Outcome::Made { id: id(1, 2) }));
+    let found = Found {
+        id: id(1, 2),
+        status: Status::Run,
+    };
+    let absent = machine.step(event(id(0, 1), 3, send(id(1, 1), 1, 1)));
+    assert!(rt; absent == Ok(Outcome::Absent { found }));
+    assert!(rt; machine.status(1) == found && machine.serial(1) == 0);
+    assert!(rt; machine.reply(id(0, 1), 3) == Some(Reply::Absent { found }));
+    assert!(rt; machine.reply(id(0, 1), 1) == Some(Reply::Killed));
+    assert!(rt; machine.reply(id(1, 2), 0).is_none());
+    assert!(rt; machine.idle() == Some(id(0, 1)) && machine.room() == 0);
+}
+
+#[test]
+fn a_sender_outlives_its_partner(rt: HostRuntime) {
+    let phase = Phase::Destroy { who: id(1, 1) };
+    let destroy = Act::Call { phase };
+    let booted = Machine::boot(rt.alloc(), &[0, 0, 0], 3, 3);
+    let mut machine = booted.expect(&rt, "memory for three threads");
+    let waits = machine.step(event(id(0, 1), 1, send(id(1, 1), 5, 6)));
+    assert!(rt; waits == Ok(Outcome::Waits));
+    let message = Message { low: 5, high: 6 };
+    assert!(rt; machine.waiting(1).first() == Some(&(id(0, 1), message)));
+    let again = machine.step(event(id(0, 1), 2, send(id(1, 1), 5, 6)));
+    let found = machine.status(0);
+    assert!(rt; again == Err(Unlawful { found, serial: 1 }));
+    let killed = machine.step(event(id(2, 1), 1, destroy));
+    assert!(rt; killed == Ok(Outcome::Killed));
+    assert!(rt; machine.reply(id(0, 1), 1).is_none());
+    let freed = machine.step(event(id(0, 1), 1, Act::Gone));
+    assert!(rt; freed == Ok(Outcome::Freed));
+    assert!(rt; machine.reply(id(0, 1), 1) == Some(Reply::Gone));
+    assert!(rt; machine.replies().len() == 2 && machine.size() == 3);
+}

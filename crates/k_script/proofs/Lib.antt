@@ -1,0 +1,11 @@
+pub mod Cut
+pub mod Feeds
+pub mod Digits
+pub mod Spelled
+pub mod Accepts
+pub mod Lists
+pub mod Limits
+pub mod Meaning
+pub mod Converse
+pub mod Goes
+pub mod Onward

@@ -1,0 +1,6 @@
+pub mod Appended
+pub mod Walked
+pub mod Removed
+pub mod Rows
+pub mod Masks
+pub mod Kept

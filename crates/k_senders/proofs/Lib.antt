@@ -1,0 +1,5 @@
+pub mod Appended
+pub mod Walked
+pub mod Removed
+pub mod Rows
+pub mod Places

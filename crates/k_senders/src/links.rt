@@ -1,0 +1,85 @@
+// Changes of the rows: each is of a few links, and leaves all else.
+ghost use Rattle.k_senders.specs.Links.{IsBelow, empty_row, end_of, row_at, with_next, with_prior};
+ghost use Rattle.k_senders.specs.Queue.{number_of};
+ghost use Rattle.std.specs.Prelude.{None, Some, if◌then◌else◌, length, ℕ, ◌%◌, ◌<◌, ◌==◌, ◌≡◌};
+
+use crate::entries::{SenderEntry, SenderRow};
+
+pub const EMPTY_ROW: SenderRow = SenderRow {
+    entry: None,
+    prior: None,
+    next: None,
+};
+
+/// The number of a thread: `who` is version times 64 plus number.
+pub fn number_of(who: u64) -> u8
+    ensures { result ≡ who % 64 }
+{
+    (who % 64) as u8
+}
+
+/// Writes the row of an entry that follows the last one, and lets the last one lead on to it.
+pub fn append(rows: &mut [SenderRow], last: Option<u8>, entry: SenderEntry)
+    requires inside { number_of entry < length rows.old }
+    requires last { IsBelow last (length rows.old) }
+    ensures rows { (n : ℕ) → row_at rows.new n ≡ with_next last (Some (number_of entry)) n
+        (if number_of entry == n then record { entry = Some entry; prior = last; next = None } else row_at rows.old n) }
+    ensures size { length rows.new ≡ length rows.old }
+{
+    let number = number_of(entry.who);
+    rows[usize::from(number)] = SenderRow {
+        entry: Some(entry),
+        prior: last,
+        next: None,
+    };
+    set_next(rows, last, Some(number));
+}
+
+/// Empties the row of a number, and lets its neighbours lead to each other. The answer is what the row was.
+pub fn cut(rows: &mut [SenderRow], number: u8) -> SenderRow
+    requires inside { number < length rows.old }
+    requires prior { IsBelow (row_at rows.old number).prior (length rows.old) }
+    requires next { IsBelow (row_at rows.old number).next (length rows.old) }
+    ensures row { result ≡ row_at rows.old number }
+    ensures rows { (n : ℕ) → row_at rows.new n ≡ with_prior result.next result.prior n
+        (with_next result.prior result.next n (if number == n then empty_row else row_at rows.old n)) }
+    ensures size { length rows.new ≡ length rows.old }
+{
+    let row = rows[usize::from(number)];
+    rows[usize::from(number)] = EMPTY_ROW;
+    set_next(rows, row.prior, row.next);
+    set_prior(rows, row.next, row.prior);
+    row
+}
+
+/// An end of the queue: `new` where an entry has no neighbour on that side, or else what it was.
+pub fn end_of(neighbour: Option<u8>, old: Option<u8>, new: Option<u8>) -> Option<u8>
+    ensures { result ≡ end_of neighbour old new }
+{
+    match neighbour {
+        Some(_) => old,
+        None => new,
+    }
+}
+
+// Lets the row of the number `named`, if there is one, lead on to `link`.
+fn set_next(rows: &mut [SenderRow], named: Option<u8>, link: Option<u8>)
+    requires { IsBelow named (length rows.old) }
+    ensures rows { (n : ℕ) → row_at rows.new n ≡ with_next named link n (row_at rows.old n) }
+    ensures size { length rows.new ≡ length rows.old }
+{
+    if let Some(number) = named {
+        rows[usize::from(number)].next = link;
+    }
+}
+
+// Lets the row of the number `named`, if there is one, lead back to `link`.
+fn set_prior(rows: &mut [SenderRow], named: Option<u8>, link: Option<u8>)
+    requires { IsBelow named (length rows.old) }
+    ensures rows { (n : ℕ) → row_at rows.new n ≡ with_prior named link n (row_at rows.old n) }
+    ensures size { length rows.new ≡ length rows.old }
+{
+    if let Some(number) = named {
+        rows[usize::from(number)].prior = link;
+    }
+}

@@ -28,8 +28,8 @@ is_served (word ∷ next ∷ words) = false
 abbrev pub IsGiven : Option (List ℕ) → List ℕ → Type 0
 IsGiven given bytes = IfSome given (λ left. left ≡ bytes)
 
--- DONE: the bytes are a text of a script, and the report of a run of it was put: of a legal, playing, finished history of
--- that script, with the replies of its replay by number, version and serial, and its final statuses.
+-- DONE: the bytes are not too many and a text of a script, and the report of a run of it was put: of a legal, playing,
+-- finished history of that script, with the replies of its replay by number, version and serial, and its final statuses.
 pub record IsRunOf (bytes : List ℕ) (history : List Entry) (replies : List ReplyLine) (finals : List Found) : Type 0 where
   pub script : Script
   pub spelled : IsText bytes script
@@ -38,6 +38,7 @@ pub record IsRunOf (bytes : List ℕ) (history : List Entry) (replies : List Rep
 pub record IsRunOfGiven (given : Option (List ℕ)) (history : List Entry) (replies : List ReplyLine) (finals : List Found) : Type 0 where
   pub bytes : List ℕ
   pub is_given : IsGiven given bytes
+  pub small : length bytes ≤ most_bytes
   pub run : IsRunOf bytes history replies finals
 
 pub record ReportsRun (given held holds : Option (List ℕ)) : Type 0 where

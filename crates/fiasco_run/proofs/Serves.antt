@@ -17,7 +17,7 @@ use Rattle.fiasco_run.specs.declared.exit.Exit.{Exit}
 use Rattle.fiasco_run.specs.declared.exit.Exit.TheVariants as exit
 use Rattle.fiasco_run.specs.Input.{IsPartTaken, most_bytes}
 use Rattle.fiasco_run.specs.Exits.{exit_text}
-use Rattle.fiasco_run.specs.Served.{IsBadScript, IsCaused, IsComplete, IsRunOfGiven, IsRunOrFault, PutsFront, TakesAll, TakesFor}
+use Rattle.fiasco_run.specs.Served.{IsBadScript, IsCaused, IsComplete, IsGiven, IsRunOfGiven, IsRunOrFault, IsTooLargeOrFault, PutsFront, RefusesLarge, TakesAll, TakesFor}
 
 -- A status with a cause has a text of its own.
 pub caused_text : (e : Exit) (served : Bool) (given : Option (List ℕ)) (before now : ℕ) → IsCaused e served given before now → e ≢ exit.WriteFault
@@ -84,3 +84,31 @@ complete_status e r served given before now write c (inl same) fault s =
     each_given given _ (λ bytes is script small text. subst (λ (x : Exit). IsRunOrFault x (Rose before now) write) (sym same) (complete_cause e served given before now write bytes script c s is small text))
 complete_status e r served given before now write c (inr same) fault s =
     each_given given _ (λ bytes is script small text. rw same (fault same))
+
+-- TOO LARGE: neither a run nor a bad line has so many bytes.
+
+small_given : (given : Option (List ℕ)) (bytes mine : List ℕ) → given ≡ Some bytes → IsGiven given mine → length mine ≤ most_bytes → most_bytes < length bytes → ⊥
+small_given given bytes mine is given_mine small many =
+    let same : bytes ≡ mine = subst (λ (o : Option (List ℕ)). IfSome o (λ left. left ≡ mine)) is given_mine in
+    omega (arith, ap length same, small, many)
+
+pub large_report : (history : List Entry) (replies : List ReplyLine) (finals : List Found) (r : Exit) (served : Bool) (given : Option (List ℕ)) (read write : Type 0) → IsRunOfGiven given history replies finals → RefusesLarge r served given read write
+large_report history replies finals r served given read write run s =
+    each_given given _ (λ bytes is many. absurd (small_given given bytes run.bytes is run.is_given run.small many))
+
+large_cause : (e : Exit) (served : Bool) (given : Option (List ℕ)) (before now : ℕ) (write : Type 0) (bytes : List ℕ) → IsCaused e served given before now → served ≡ true → given ≡ Some bytes → most_bytes < length bytes → IsTooLargeOrFault e (Rose before now) write
+large_cause exit.Done served given before now write bytes c s is many = absurd c
+large_cause (exit.Refused fault.TooLarge) served given before now write bytes c s is many = refl
+large_cause (exit.Refused (fault.Line line reason)) served given before now write bytes c s is many = absurd (small_given given bytes c.1.bytes is c.1.is_given c.1.small many)
+large_cause (exit.Refused (fault.TooLong steps)) served given before now write bytes c s is many = absurd c.1
+large_cause (exit.Refused fault.NoMemory) served given before now write bytes c s is many = absurd c.1
+large_cause exit.Usage served given before now write bytes c s is many = absurd (false≢true (sym c ∙ s))
+large_cause exit.ReadFault served given before now write bytes c s is many = c.1
+large_cause exit.WriteFault served given before now write bytes c s is many = absurd c
+large_cause exit.NoMemory served given before now write bytes c s is many = tt
+
+pub large_status : (e r : Exit) (served : Bool) (given : Option (List ℕ)) (before now : ℕ) (write : Type 0) → IsCaused e served given before now → (r ≡ e) ⊎ (r ≡ exit.WriteFault) → (r ≡ exit.WriteFault → write) → RefusesLarge r served given (Rose before now) write
+large_status e r served given before now write c (inl same) fault s =
+    each_given given _ (λ bytes is many. subst (λ (x : Exit). IsTooLargeOrFault x (Rose before now) write) (sym same) (large_cause e served given before now write bytes c s is many))
+large_status e r served given before now write c (inr same) fault s =
+    each_given given _ (λ bytes is many. rw same (fault same))

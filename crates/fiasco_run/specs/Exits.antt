@@ -1,5 +1,5 @@
 -- How a call of the program ends: the number and the text of each status.
-use Rattle.std.specs.Prelude.{◌≢◌, ℕ, List, [], ◌∷◌, codes, decimal}
+use Rattle.std.specs.Prelude.{ℕ, List, [], ◌∷◌, codes, decimal}
 use Rattle.k_script.specs.declared.fault.Why.{Why}
 use Rattle.k_script.specs.declared.fault.Why.TheVariants as why
 use Rattle.k_script.specs.declared.fault.ScriptFault.{ScriptFault}
@@ -41,7 +41,3 @@ exit_text exit.Usage = codes "usage: fiasco_run run, check, big N, carry M\n"
 exit_text exit.ReadFault = codes "read fault\n"
 exit_text exit.WriteFault = []
 exit_text exit.NoMemory = codes "no memory\n"
-
--- a status that has a text of its own
-abbrev pub HasText : Exit → Type 0
-HasText e = (e ≢ exit.Done) × (e ≢ exit.WriteFault)

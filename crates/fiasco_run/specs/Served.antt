@@ -149,3 +149,16 @@ IsRunOrFault exit.NoMemory read write = Unit {0}
 abbrev pub IsComplete : Exit → Bool → Option (List ℕ) → Type 0 → Type 0 → Type 0
 IsComplete e served given read write =
     served ≡ true → IfSome given (λ bytes. (script : Script) → length bytes ≤ most_bytes → IsText bytes script → IsRunOrFault e read write)
+
+-- TOO LARGE: more bytes than a script may have are refused as too large, with the same exceptions.
+abbrev pub IsTooLargeOrFault : Exit → Type 0 → Type 0 → Type 0
+IsTooLargeOrFault exit.Done read write = ⊥
+IsTooLargeOrFault (exit.Refused reason) read write = reason ≡ fault.TooLarge
+IsTooLargeOrFault exit.Usage read write = ⊥
+IsTooLargeOrFault exit.ReadFault read write = read
+IsTooLargeOrFault exit.WriteFault read write = write
+IsTooLargeOrFault exit.NoMemory read write = Unit {0}
+
+abbrev pub RefusesLarge : Exit → Bool → Option (List ℕ) → Type 0 → Type 0 → Type 0
+RefusesLarge e served given read write =
+    served ≡ true → IfSome given (λ bytes. most_bytes < length bytes → IsTooLargeOrFault e read write)

@@ -3,7 +3,7 @@ ghost use Rattle.std.specs.Prelude.{◌≡◌, ◌≢◌, ◌≤◌, ◌⊎◌, 
 ghost use Rattle.k_outside.specs.Outside.{Appends, AppendsFront, Rose};
 ghost use Rattle.k_history.specs.Report.{report_text};
 ghost use Rattle.fiasco_run.specs.Exits.{exit_text};
-ghost use Rattle.fiasco_run.specs.Served.{is_served, IfRefused, IsCaused, IsComplete, IsRefusal, PutsFront, PutsText, ReportsRun, TakesFor};
+ghost use Rattle.fiasco_run.specs.Served.{is_served, IfRefused, IsCaused, IsComplete, IsRefusal, PutsFront, PutsText, RefusesLarge, ReportsRun, TakesFor};
 
 use crate::exit::Exit;
 use crate::run::{RunEnd, answer};
@@ -66,6 +66,7 @@ pub fn top<S: Source, K: Sink>(
     ensures refused { IfRefused result (IsRefusal (S.left source.old)) }
     ensures read_fault { result ≡ Exit.ReadFault → Rose (S.faults source.old) (S.faults source.new) }
     ensures write_fault { result ≡ Exit.WriteFault → Rose (K.faults sink.old) (K.faults sink.new) }
+    ensures too_large { RefusesLarge result (is_served (map string_bytes words.now)) (S.left source.old) (Rose (S.faults source.old) (S.faults source.new)) (Rose (K.faults sink.old) (K.faults sink.new)) }
     ensures complete { IsComplete result (is_served (map string_bytes words.now)) (S.left source.old) (Rose (S.faults source.old) (S.faults source.new)) (Rose (K.faults sink.old) (K.faults sink.new)) }
 
     // What is put and what is taken.

@@ -83,7 +83,7 @@ fn finals(rt: &(impl Abort + AllocGlobal), machine: &Machine) -> Result<Vec<Foun
 }
 
 /// The events are lawful one after the other, leave nothing to come, and have this report.
-pub fn reports(
+pub(crate) fn reports(
     rt: &(impl Abort + AllocGlobal),
     versions: &[u32],
     threads: u8,

@@ -1,11 +1,11 @@
 // Events, one constructor for each kind.
 use k_ids::{Act, Event, Message, Phase, ThreadId};
 
-pub fn id(number: u8, version: u32) -> ThreadId {
+pub(crate) fn id(number: u8, version: u32) -> ThreadId {
     ThreadId { number, version }
 }
 
-pub fn message(low: u32, high: u32) -> Message {
+pub(crate) fn message(low: u32, high: u32) -> Message {
     Message { low, high }
 }
 
@@ -31,58 +31,58 @@ fn sends(
     makes(who, serial, phase)
 }
 
-pub fn send(who: ThreadId, serial: u32, to: ThreadId, message: Message) -> Event {
+pub(crate) fn send(who: ThreadId, serial: u32, to: ThreadId, message: Message) -> Event {
     sends(who, serial, to, message, false, false)
 }
 
-pub fn send_now(who: ThreadId, serial: u32, to: ThreadId, message: Message) -> Event {
+pub(crate) fn send_now(who: ThreadId, serial: u32, to: ThreadId, message: Message) -> Event {
     sends(who, serial, to, message, true, false)
 }
 
-pub fn call(who: ThreadId, serial: u32, to: ThreadId, message: Message) -> Event {
+pub(crate) fn call(who: ThreadId, serial: u32, to: ThreadId, message: Message) -> Event {
     sends(who, serial, to, message, false, true)
 }
 
-pub fn reply(who: ThreadId, serial: u32, to: ThreadId, message: Message) -> Event {
+pub(crate) fn reply(who: ThreadId, serial: u32, to: ThreadId, message: Message) -> Event {
     let zero = false;
     makes(who, serial, Phase::Reply { to, message, zero })
 }
 
-pub fn receive(who: ThreadId, serial: u32, from: ThreadId) -> Event {
+pub(crate) fn receive(who: ThreadId, serial: u32, from: ThreadId) -> Event {
     let (from, zero) = (Some(from), false);
     makes(who, serial, Phase::Receive { from, zero })
 }
 
-pub fn wait(who: ThreadId, serial: u32) -> Event {
+pub(crate) fn wait(who: ThreadId, serial: u32) -> Event {
     let (from, zero) = (None, false);
     makes(who, serial, Phase::Receive { from, zero })
 }
 
-pub fn wait_now(who: ThreadId, serial: u32) -> Event {
+pub(crate) fn wait_now(who: ThreadId, serial: u32) -> Event {
     let (from, zero) = (None, true);
     makes(who, serial, Phase::Receive { from, zero })
 }
 
 /// The creation of a thread of program 0.
-pub fn create(who: ThreadId, serial: u32, priority: u8) -> Event {
+pub(crate) fn create(who: ThreadId, serial: u32, priority: u8) -> Event {
     let program = 0;
     makes(who, serial, Phase::Create { program, priority })
 }
 
-pub fn destroy(who: ThreadId, serial: u32, victim: ThreadId) -> Event {
+pub(crate) fn destroy(who: ThreadId, serial: u32, victim: ThreadId) -> Event {
     makes(who, serial, Phase::Destroy { who: victim })
 }
 
-pub fn end(who: ThreadId, serial: u32) -> Event {
+pub(crate) fn end(who: ThreadId, serial: u32) -> Event {
     makes(who, serial, Phase::End)
 }
 
-pub fn gone(who: ThreadId, serial: u32) -> Event {
+pub(crate) fn gone(who: ThreadId, serial: u32) -> Event {
     let act = Act::Gone;
     Event { who, serial, act }
 }
 
-pub fn pick(who: ThreadId, serial: u32) -> Event {
+pub(crate) fn pick(who: ThreadId, serial: u32) -> Event {
     let act = Act::Pick;
     Event { who, serial, act }
 }

@@ -9,3 +9,4 @@ pub mod Replays
 pub mod Spent
 pub mod Places
 pub mod Kept
+pub mod Left

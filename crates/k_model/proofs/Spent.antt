@@ -16,7 +16,7 @@ use Rattle.k_model.specs.Maps.{upd, lowest}
 use Rattle.k_model.specs.State.{KernelState, Place, with_place, with_status, answered, same_id, is_run, is_present, takes_from, waits_for_absent}
 use Rattle.k_model.specs.Step.{no_one, entry_at, called, without, sent, status_after, queued, passed, taken, send, receive, received, is_own, match_at, is_free, created, create, left_by, left_everywhere, killed, destroy, made, acted, may_act}
 use Rattle.k_model.specs.Sound.{IsSound, IsQueued}
-use Rattle.k_model.specs.Effort.{wait_of, effort_at, effort_below, effort, added_at, added_call, added}
+use Rattle.k_model.specs.Effort.{wait_of, effort_at, effort_below, effort, unlimited, waits, added_at, added_call, added}
 use Rattle.k_model.proofs.Maps.{upd_same, upd_other}
 use Rattle.k_model.proofs.Lists.{all_at}
 use Rattle.k_model.proofs.Sound.{kept, called-sound, with_status-sound, acts_alive, acts_free, inside_from, picking_from}
@@ -170,3 +170,45 @@ module _ (limit : ℕ → ℕ) where
       let alive = (acts_alive k who serial act.Pick may).1 in
       let sound = with_status-sound k n status.Run (λ e. cc) alive (acts_free k who serial act.Pick may s) s in
       omega (arith, receive_effort m who serial None false sound, effort_upd k.place n (record (k.place n) { status = status.Run; joined = false }) k.size (inside_from k n s alive), one)
+
+  -- What a call may add, and that the other events take one, whatever the limits are.
+  pub call_effort : (k : KernelState) (who : ThreadId) (serial : ℕ) (p : Phase) → IsSound k → effort limit (acted k who serial (act.Call p)).0 ≤ effort limit (called k who serial) + 1 + added_call limit (called k who serial) p
+  unfolding acted
+  call_effort k who serial p s = made_effort (called k who serial) who serial p (called-sound k who serial s)
+
+  pub gone_effort : (k : KernelState) (who : ThreadId) (serial : ℕ) → may_act k who serial act.Gone ≡ true → IsSound k → effort limit (acted k who serial act.Gone).0 + 1 ≤ effort limit k
+  unfolding acted
+  gone_effort k who serial may s =
+      let n = who.number in
+      let one = waiting_one k (k.place n).status (and_parts _ _ (and_parts _ _ may).0).1 in
+      let inside = inside_from k n s (acts_alive k who serial act.Gone may).1 in
+      omega (arith, effort_upd k.place n (record (k.place n) { status = status.Run; joined = false }) k.size inside, one)
+
+  pub pick_effort : (k : KernelState) (who : ThreadId) (serial : ℕ) → may_act k who serial act.Pick ≡ true → IsSound k → effort limit (acted k who serial act.Pick).0 + 1 ≤ effort limit k
+  unfolding acted
+  pick_effort k who serial may s =
+      let n = who.number in
+      let m = with_status k n status.Run in
+      let one : wait_of (k.place n).status ≡ 1 = ap wait_of (picking_from (k.place n).status (and_parts _ _ (and_parts _ _ may).0).1) in
+      let alive = (acts_alive k who serial act.Pick may).1 in
+      let sound = with_status-sound k n status.Run (λ e. cc) alive (acts_free k who serial act.Pick may s) s in
+      omega (arith, receive_effort m who serial None false sound, effort_upd k.place n (record (k.place n) { status = status.Run; joined = false }) k.size (inside_from k n s alive), one)
+
+-- A call adds one at most to the threads that wait.
+
+none_added : (k : KernelState) (p : Phase) → added_call unlimited k p ≡ 0
+none_added k (phase.Send to message soon joined) = refl
+none_added k (phase.Reply to message soon) = refl
+none_added k (phase.Receive from soon) = refl
+none_added k (phase.Create program priority) = go (lowest (λ n. is_free (k.place n)) k.size)
+  where
+    go : (at : Option ℕ) → added_at unlimited at ≡ 0
+    go None = refl
+    go (Some number) = refl
+none_added k (phase.Destroy who) = refl
+none_added k phase.End = refl
+
+pub call_waits : (k : KernelState) (who : ThreadId) (serial : ℕ) (p : Phase) → IsSound k → waits (acted k who serial (act.Call p)).0 ≤ waits k + 1
+call_waits k who serial p s =
+    let taking = place_effort unlimited k who.number (record (k.place who.number) { serial = serial }) 0 (omega arith) in
+    omega (arith, call_effort unlimited k who serial p s, none_added (called k who serial) p, taking)

@@ -31,6 +31,13 @@ effort_below limit place (suc n) = effort_below limit place n + effort_at (limit
 abbrev pub effort : (ℕ → ℕ) → KernelState → ℕ
 effort limit k = effort_below limit k.place k.size
 
+-- Where no number has a limit, it is the number of threads from which an event may come that isn't a call.
+abbrev pub unlimited : ℕ → ℕ
+unlimited number = 0
+
+abbrev pub waits : KernelState → ℕ
+waits k = effort unlimited k
+
 -- what a create may add: the calls of the new thread
 abbrev pub added_at : (ℕ → ℕ) → Option ℕ → ℕ
 added_at limit None = 0

@@ -1,6 +1,7 @@
 // The laws of the sequential specification. Each is a function that does nothing, whose contract is the law.
 ghost use Rattle.k_ids.specs.declared.calls.Act.TheVariants as act;
 ghost use Rattle.k_ids.specs.declared.calls.Outcome.TheVariants as outcome;
+ghost use Rattle.k_ids.specs.declared.calls.Phase.{Phase};
 ghost use Rattle.k_ids.specs.declared.calls.Reply.{Reply};
 ghost use Rattle.k_ids.specs.declared.calls.Reply.TheVariants as reply;
 ghost use Rattle.k_ids.specs.declared.histories.Entry.{Entry};
@@ -9,14 +10,15 @@ ghost use Rattle.k_ids.specs.declared.histories.ReplyLine.{ReplyLine};
 ghost use Rattle.k_ids.specs.declared.threads.Status.TheVariants as status;
 ghost use Rattle.k_ids.specs.declared.threads.ThreadId.{ThreadId};
 ghost use Rattle.k_model.specs.Answers.{AddsReplies, IsAnswered, IsEarlierCall, reply_to};
-ghost use Rattle.k_model.specs.Effort.{added, effort};
+ghost use Rattle.k_model.specs.Effort.{added, effort, waits};
 ghost use Rattle.k_model.specs.History.{IsReached, opened};
+ghost use Rattle.k_model.specs.Keeps.{renewed_number, IsRenewed, Leaves};
 ghost use Rattle.k_model.specs.Ranges.{IsRanged};
 ghost use Rattle.k_model.specs.Sound.{IsListed, IsSound, WaitsNowhere};
 ghost use Rattle.k_model.specs.State.{is_present, KernelState, Waiting, with_status};
 ghost use Rattle.k_model.specs.Step.{acted, called, is_enabled, killed, last_version, outcome_of, step, taken};
 ghost use Rattle.std.specs.List.{AllByRecursion};
-ghost use Rattle.std.specs.Prelude.{false, length, List, None, Ok, Some, true, ℕ, [], ◌+◌, ◌<◌, ◌∷◌, ◌≡◌, ◌≤◌};
+ghost use Rattle.std.specs.Prelude.{false, length, List, None, Ok, Some, true, ℕ, [], ◌+◌, ◌<◌, ◌∷◌, ◌≡◌, ◌≢◌, ◌≤◌};
 
 /// A step is made exactly where the event is enabled, and gives what the event makes of the state.
 pub fn a_step_is_made()
@@ -66,6 +68,21 @@ pub fn serials_begin_at_one()
 /// the calls of the new thread. So a history without creates ends.
 pub fn an_event_takes_effort()
     ensures { (limit : ℕ → ℕ) (k : KernelState) (e : Event) → (k.place e.who.number).serial < limit e.who.number → is_enabled k e ≡ true → IsSound k → effort limit (outcome_of k e).0 + 1 ≤ effort limit k + added limit (called k e.who e.serial) e.act }
+{}
+
+/// The threads from which an event may come that isn't a call are counted: a call adds one at most, and each other event takes
+/// one.
+pub fn waits_are_counted()
+    ensures call { (k : KernelState) (who : ThreadId) (serial : ℕ) (p : Phase) → IsSound k → waits (acted k who serial (act.Call p)).0 ≤ waits k + 1 }
+    ensures gone { (k : KernelState) (who : ThreadId) (serial : ℕ) → is_enabled k (record { who = who; serial = serial; act = act.Gone }) ≡ true → IsSound k → waits (acted k who serial act.Gone).0 + 1 ≤ waits k }
+    ensures pick { (k : KernelState) (who : ThreadId) (serial : ℕ) → is_enabled k (record { who = who; serial = serial; act = act.Pick }) ≡ true → IsSound k → waits (acted k who serial act.Pick).0 + 1 ≤ waits k }
+{}
+
+/// Each number but the caller's, and but that of a new thread, has the thread that it had, with the calls that it had made; a
+/// settled thread doesn't go on, and a dead number stays dead. The number of a new thread was dead, and its thread runs.
+pub fn an_event_leaves_the_others()
+    ensures left { (k : KernelState) (e : Event) (number : ℕ) → is_enabled k e ≡ true → IsSound k → number ≢ e.who.number → renewed_number (called k e.who e.serial) e.act ≢ Some number → Leaves k (outcome_of k e).0 number }
+    ensures renewed { (k : KernelState) (e : Event) (number : ℕ) → is_enabled k e ≡ true → renewed_number (called k e.who e.serial) e.act ≡ Some number → IsRenewed k number (outcome_of k e).0 }
 {}
 
 /// A thread that waits for one that isn't there, and is freed, runs, has the reply Gone to its last call, and stands in no

@@ -8,7 +8,7 @@ ghost use Rattle.k_model.specs.Ranges.{IsRanged};
 ghost use Rattle.k_model.specs.Sound.{IsListed, IsSound};
 ghost use Rattle.k_model.specs.Step.{last_version, step};
 ghost use Rattle.std.specs.List.{All};
-ghost use Rattle.std.specs.Prelude.{None, length, slice_index_or, Err, IfErr, IfNone, IfOk, IfSome, List, Ok, OnErr, OnOk, ℕ, ◌*◌, ◌+◌, ◌<◌, ◌^◌, ◌≡◌, ◌≤◌};
+ghost use Rattle.std.specs.Prelude.{None, length, max, slice_index_or, Err, IfErr, IfNone, IfOk, IfSome, List, Ok, OnErr, OnOk, ℕ, ◌*◌, ◌+◌, ◌<◌, ◌^◌, ◌≡◌, ◌≤◌};
 
 use crate::last_call::LastCall;
 use crate::replies::Replies;
@@ -45,7 +45,7 @@ impl Machine {
     /// no call. The others are dead, and show these versions. There is room for so many events.
     ///
     /// There are 1 to 64 versions, each from 0 to 1,048,575, no more threads than versions, and fewer than 2^32 events.
-    /// No other call takes memory.
+    /// No other call but `reserve` takes memory.
     pub fn boot(
         alloc: Global,
         versions: &[u32],
@@ -67,6 +67,20 @@ impl Machine {
             table: Table::of(seats, Replies::of(lines, calls)),
             room: events,
         })
+    }
+
+    /// Takes room for one more event where none is left. Where there is no memory for it, nothing has changed. The room for
+    /// replies doubles when it is used up, so that one call after the other takes memory seldom.
+    pub fn reserve(&mut self) -> Result<(), NoMemory>
+        ensures lists { self.new.lists ≡ self.old.lists }
+        ensures room { OnOk result (self.new.room ≡ max 1 self.old.room) }
+        ensures err { OnErr result (self.new ≡ self.old) }
+    {
+        if self.room == 0 {
+            self.table.reserve(2)?;
+            self.room = 1;
+        }
+        Ok(())
     }
 
     /// Makes one event at once, as the sequential specification's `step` says, and takes room for one event.

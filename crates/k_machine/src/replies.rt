@@ -2,11 +2,12 @@
 ghost use Rattle.k_machine.specs.Replies.{AreKept, AreSameCalls, no_call};
 ghost use Rattle.k_model.specs.Answers.{reply_to};
 ghost use Rattle.std.specs.List.{All};
-ghost use Rattle.std.specs.Prelude.{None, length, set, slice_index_or, vec_capacity, vec_len, ℕ, [], ◌∷◌, ◌++◌, ◌+◌, ◌-◌, ◌<◌, ◌≡◌};
+ghost use Rattle.std.specs.Prelude.{None, OnOk, length, set, slice_index_or, vec_capacity, vec_len, ℕ, [], ◌∷◌, ◌++◌, ◌+◌, ◌-◌, ◌<◌, ◌≡◌, ◌≤◌};
 
 use crate::ids::is_same;
 use crate::last_call::LastCall;
 use k_ids::{Reply, ReplyLine, ThreadId};
+use std::alloc::AllocError;
 use std::marker::Model;
 
 /// The replies, in the order in which they came, with room for more.
@@ -43,6 +44,16 @@ impl Replies {
         ensures { result.now ≡ self.now.lines }
     {
         &self.lines
+    }
+
+    /// Takes room for so many more replies. Where there is none, nothing has changed.
+    pub fn reserve(&mut self, count: usize) -> Result<(), AllocError>
+        ensures lines { self.new.lines ≡ self.old.lines }
+        ensures calls { self.new.calls ≡ self.old.calls }
+        ensures room { OnOk result (count ≤ self.new.spare) }
+        ensures spare { self.old.spare ≤ self.new.spare }
+    {
+        self.lines.reserve(count)
     }
 
     /// One more reply.

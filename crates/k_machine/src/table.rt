@@ -7,12 +7,13 @@ ghost use Rattle.k_model.specs.Maps.{count, lowest};
 ghost use Rattle.k_model.specs.State.{answered, found_of, id_of, is_present, takes_from, waits_for_absent, with_place, with_status};
 ghost use Rattle.k_ids.specs.declared.threads.Status.TheVariants as status;
 ghost use Rattle.k_model.specs.Step.{alive, called, entry_at, is_free, killed, left_everywhere, match_at, queued, renewed, without, worn};
-ghost use Rattle.std.specs.Prelude.{None, false, length, vec_capacity, vec_len, ℕ, [], ◌∷◌, ◌++◌, ◌+◌, ◌-◌, ◌<◌, ◌≡◌, ◌≤◌, true};
+ghost use Rattle.std.specs.Prelude.{None, OnOk, false, length, vec_capacity, vec_len, ℕ, [], ◌∷◌, ◌++◌, ◌+◌, ◌-◌, ◌<◌, ◌≡◌, ◌≤◌, true};
 
 use crate::ids::{admits, first_admitted};
 use crate::replies::Replies;
 use crate::seat::Seat;
 use k_ids::{Found, Message, Reply, ReplyLine, Status, ThreadId};
+use std::alloc::AllocError;
 use std::marker::Model;
 
 #[derive(Drop)]
@@ -39,6 +40,15 @@ impl Table {
         ensures spare { result.spare ≡ replies.spare }
     {
         Table { seats, replies }
+    }
+
+    /// Takes room for so many more replies. Where there is none, nothing has changed.
+    pub fn reserve(&mut self, count: usize) -> Result<(), AllocError>
+        ensures lists { self.new.lists ≡ self.old.lists }
+        ensures room { OnOk result (count ≤ self.new.spare) }
+        ensures spare { self.old.spare ≤ self.new.spare }
+    {
+        self.replies.reserve(count)
     }
 
     #[tactic(auto, unfolding(crate::specs::Machine::state_of))]

@@ -81,3 +81,16 @@ fn a_sender_outlives_its_partner(rt: HostRuntime) {
     assert!(rt; machine.reply(id(0, 1), 1) == Some(Reply::Gone));
     assert!(rt; machine.replies().len() == 2 && machine.size() == 3);
 }
+
+// Room is taken where none is left, and what has been made stays.
+#[test]
+fn room_is_taken_one_event_at_a_time(rt: HostRuntime) {
+    let phase = Phase::Destroy { who: id(0, 1) };
+    let booted = Machine::boot(rt.alloc(), &[0], 1, 1);
+    let mut machine = booted.expect(&rt, "memory for a thread");
+    assert!(rt; machine.reserve().is_ok() && machine.room() == 1);
+    let own = machine.step(event(id(0, 1), 1, Act::Call { phase }));
+    assert!(rt; own == Ok(Outcome::Own) && machine.room() == 0);
+    machine.reserve().expect(&rt, "memory for an event");
+    assert!(rt; machine.room() == 1 && machine.replies().len() == 1);
+}

@@ -128,8 +128,16 @@ impl ReadyLists {
         self.running = count;
     }
 
+    /// Does nothing. Its contract tells what holds of all ready lists: there are 64, and a number stands in one at most.
+    pub fn holds(&self)
+        ensures size { length self.now.lists ≡ 64 }
+        ensures one { (n p q : ℕ) → stands n (list_of self.now.lists p) ≡ true → stands n (list_of self.now.lists q) ≡ true → p ≡ q }
+    {
+        let _priorities = &self.priorities;
+    }
+
     /// The priority of the list in which a number stands: `None` where it stands in none.
-    pub(crate) fn priority_of(&self, number: u8) -> Option<u8>
+    pub fn priority_of(&self, number: u8) -> Option<u8>
         ensures some { IfSome result (λ p. (p < 64) × (stands number (list_of self.now.lists p) ≡ true)) }
         ensures none { IfNone result (IsInNone number self.now.lists) }
     {

@@ -3,3 +3,4 @@ pub mod Walked
 pub mod Removed
 pub mod Rows
 pub mod Places
+mod Counted

@@ -1,7 +1,7 @@
 // The queue: a row for each thread number, linked in the order of the entries.
 ghost use Rattle.k_senders.specs.Links.{IsKnown, IsNumberAt, is_of, row_at};
 ghost use Rattle.k_senders.specs.Queue.{IsOnceEach, entry_of, first_number, number_after, number_of, row_of, sends, stands, without, without_thread};
-ghost use Rattle.std.specs.Prelude.{IfOk, None, Some, false, length, remove, slice_get, true, ℕ, [], ◌∷◌, ◌++◌, ◌%◌, ◌<◌, ◌≡◌};
+ghost use Rattle.std.specs.Prelude.{IfOk, None, Some, false, length, remove, slice_get, true, ℕ, [], ◌∷◌, ◌++◌, ◌%◌, ◌<◌, ◌≡◌, ◌≤◌};
 
 use crate::entries::{SenderEntry, SenderRow};
 use crate::links::{EMPTY_ROW, append, cut, end_of, number_of};
@@ -142,10 +142,12 @@ impl Senders {
         &self.rows
     }
 
-    /// Does nothing. Its contract tells what holds of each queue: each number has one entry at most, and is below `n`.
+    /// Does nothing. Its contract tells what holds of each queue: each number has one entry at most, and is below `n` and 64.
+    #[tactic(auto, using(crate::proofs::Counted::few_entries))]
     pub fn holds(&self)
         ensures once { IsOnceEach self.now.entries }
         ensures inside { (number : ℕ) → stands number self.now.entries ≡ true → number < self.now.room }
+        ensures few { length self.now.entries ≤ 64 }
     {
         let _rows = &self.rows;
     }

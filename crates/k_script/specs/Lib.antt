@@ -1,7 +1,9 @@
-pub mod Words
-pub mod Numbers
 pub mod Script
-pub mod Lines
-pub mod Grammar
-pub mod Reading
+pub mod Limits
+pub mod Parts
+pub mod Flat
+pub mod Skips
+pub mod Weight
 pub mod Plays
+pub mod Place
+pub mod Big

@@ -1,5 +1,6 @@
 -- PLAYS: what it means that a history plays a script.
-use Rattle.std.specs.Prelude.{◌≡◌, ℕ, ◌+◌, ◌-◌, ◌==◌, nat_lt, Bool, true, false, ◌&&◌, List, [], ◌∷◌, length, drop, replicate, slice_index_or, Option, Some, None, option_map, is_some, if◌then◌else◌}
+use Rattle.std.specs.Prelude.{◌≡◌, ℕ, ◌+◌, ◌-◌, ◌≤◌, ◌<◌, ◌==◌, nat_lt, Bool, true, false, ◌&&◌, List, [], ◌∷◌, length, slice_index_or, Option, Some, None, option_map, is_some, if◌then◌else◌}
+use Rattle.std.specs.List.{sum_by, AllByRecursion}
 use Rattle.std.specs.Option.{option_or}
 use Rattle.k_ids.specs.declared.threads.ThreadId.{ThreadId}
 use Rattle.k_ids.specs.declared.threads.Message.{Message}
@@ -21,9 +22,14 @@ use Rattle.k_script.specs.declared.operation.Value.{Value}
 use Rattle.k_script.specs.declared.operation.Value.TheVariants as value
 use Rattle.k_script.specs.declared.operation.Operation.{Operation}
 use Rattle.k_script.specs.declared.operation.Operation.TheVariants as operation
-use Rattle.k_script.specs.declared.script.ThreadLine.{ThreadLine}
-use Rattle.k_script.specs.declared.position.Registers.{Registers}
-use Rattle.k_script.specs.Script.{Script, operations_of, phases_of_program}
+use Rattle.k_script.specs.declared.lines.ThreadLine.{ThreadLine}
+use Rattle.k_script.specs.declared.registers.Registers.{Registers}
+use Rattle.k_script.specs.declared.registers.Next.{Next}
+use Rattle.k_script.specs.declared.registers.Next.TheVariants as next
+use Rattle.k_script.specs.Script.{Script, operations_of}
+use Rattle.k_script.specs.Limits.{IsOperation}
+use Rattle.k_script.specs.Flat.{flat}
+use Rattle.k_script.specs.Weight.{phase_scale, cost, program_phases, phases_of_program}
 
 -- REGISTERS: `last` is the sender of the message last got, `created` the thread last made, `got` the message last got. They
 -- are filled from the replies to a thread's own calls.
@@ -48,8 +54,8 @@ filled r other = r
 
 -- THE PHASES OF A PROGRAM
 
--- A program goes on with its next operation whatever the reply to the phase before was; but a reply that was sent is
--- followed by an open receive. Here the reply to the last phase is not taken in yet.
+-- A program is written out flat. It goes on with its next operation whatever the reply to the phase before was; but a reply
+-- that was sent is followed by an open receive. Here the reply to the last phase is not taken in yet.
 pub record Position : Type 0 where
   pub registers : Registers
   pub replying : Bool  -- the last phase is that of a reply
@@ -71,10 +77,17 @@ is_reply other = false
 abbrev pub coming : Bool → Option Reply → List Operation → List Operation
 coming replying last ops = if replying && is_sent last then open_receive ∷ ops else ops
 
+-- work makes no phase
+abbrev pub after_work : List Operation → List Operation
+after_work [] = []
+after_work (operation.Work count ∷ ops) = after_work ops
+after_work (op ∷ ops) = op ∷ ops
+
 -- In version 1 of the script a reply is a send. In version 2 it is a call of its own.
 abbrev pub reply_phase : ℕ → ThreadId → Message → Bool → Phase
 reply_phase version to message soon = if version == 2 then phase.Reply to message soon else phase.Send to message soon false
 
+-- (Work, a repeat and an again have no phase.)
 abbrev pub phase_of : ℕ → Registers → Operation → Phase
 phase_of version r (operation.Send to low high soon) = phase.Send (id_of r to) (message_of r low high) soon false
 phase_of version r (operation.Receive from soon) = phase.Receive (option_map (id_of r) from) soon
@@ -82,6 +95,9 @@ phase_of version r (operation.Call to low high soon) = phase.Send (id_of r to) (
 phase_of version r (operation.Reply low high soon) = reply_phase version r.last (message_of r low high) soon
 phase_of version r (operation.Create program priority) = phase.Create program priority
 phase_of version r (operation.Destroy victim) = phase.Destroy (id_of r victim)
+phase_of version r (operation.Work count) = phase.End
+phase_of version r (operation.Repeat count) = phase.End
+phase_of version r operation.Again = phase.End
 
 abbrev pub first_phase : ℕ → Registers → List Operation → Phase
 first_phase version r [] = phase.End
@@ -93,11 +109,11 @@ first_move r (op ∷ ops) = record { registers = r; replying = is_reply op; left
 
 abbrev pub phase_in : ℕ → Position → Option Reply → Option (List Operation) → Phase
 phase_in version p last None = phase.End
-phase_in version p last (Some ops) = first_phase version (filled p.registers last) (coming p.replying last ops)
+phase_in version p last (Some ops) = first_phase version (filled p.registers last) (after_work (coming p.replying last ops))
 
 abbrev pub move_in : Position → Option Reply → Option (List Operation) → Position
 move_in p last None = p
-move_in p last (Some ops) = first_move (filled p.registers last) (coming p.replying last ops)
+move_in p last (Some ops) = first_move (filled p.registers last) (after_work (coming p.replying last ops))
 
 -- the next phase, given the reply to the last one
 abbrev pub phase_next : ℕ → Position → Option Reply → Phase
@@ -107,19 +123,49 @@ phase_next version p last = phase_in version p last p.left
 abbrev pub moved : Position → Option Reply → Position
 moved p last = move_in p last p.left
 
+-- ONE AT A TIME: what a thread does next, where work counts too. After work there is no reply to take in.
+
+abbrev pub next_for : ℕ → Registers → Operation → Next
+next_for version r (operation.Work count) = next.Work count
+next_for version r op = next.Phase (phase_of version r op)
+
+abbrev pub first_next : ℕ → Registers → List Operation → Next
+first_next version r [] = next.Phase phase.End
+first_next version r (op ∷ ops) = next_for version r op
+
+abbrev pub next_in : ℕ → Position → Option Reply → Option (List Operation) → Next
+next_in version p last None = next.Phase phase.End
+next_in version p last (Some ops) = first_next version (filled p.registers last) (coming p.replying last ops)
+
+abbrev pub went_in : Position → Option Reply → Option (List Operation) → Position
+went_in p last None = p
+went_in p last (Some ops) = first_move (filled p.registers last) (coming p.replying last ops)
+
+abbrev pub next_of : ℕ → Position → Option Reply → Next
+next_of version p last = next_in version p last p.left
+
+-- where that leaves the program
+abbrev pub went_on : Position → Option Reply → Position
+went_on p last = went_in p last p.left
+
 -- These calls, from this serial on, are those of the program from a position on, and lead to this position and next
 -- serial; none comes behind the end. `replies s` is the reply to the call before serial s.
 abbrev pub Runs : ℕ → (ℕ → Option Reply) → Position → ℕ → List (ℕ × Phase) → Position → ℕ → Type 0
 Runs version replies p s [] q next = (q ≡ p) × (next ≡ s)
 Runs version replies p s (c ∷ calls) q next = (is_some p.left ≡ true) × (c ≡ (s, phase_next version p (replies s))) × Runs version replies (moved p (replies s)) (s + 1) calls q next
 
--- how many phases are still to come at most, with the end
-abbrev pub phases_in : Bool → Option (List Operation) → ℕ
-phases_in replying None = 0
-phases_in replying (Some ops) = phases_of_program ops + (if replying then 1 else 0)
+-- how many calls are still to come at most, with the end and those of the threads that are created
+abbrev pub phases_in : Script → Bool → Option (List Operation) → ℕ
+phases_in script replying None = 0
+phases_in script replying (Some ops) = sum_by (cost phase_scale (program_phases script)) ops + 1 + (if replying then 1 else 0)
 
-abbrev pub phases_left : Position → ℕ
-phases_left p = phases_in p.replying p.left
+abbrev pub phases_left : Script → Position → ℕ
+phases_left script p = phases_in script p.replying p.left
+
+-- the calls of the thread that a phase may create
+abbrev pub phases_given : Script → Phase → ℕ
+phases_given script (phase.Create program priority) = phases_of_program script program
+phases_given script other = 0
 
 -- THE PROGRAM OF A THREAD
 
@@ -132,7 +178,7 @@ abbrev pub start_registers : ThreadId → Registers
 start_registers id = record { last = id; created = id; got = record { low = 0; high = 0 } }
 
 abbrev pub start_of : Script → ℕ → ThreadId → Position
-start_of script program id = record { registers = start_registers id; replying = false; left = Some (operations_of script program) }
+start_of script program id = record { registers = start_registers id; replying = false; left = Some (flat (operations_of script program)) }
 
 abbrev pub no_thread : ThreadLine
 no_thread = record { priority = 0; program = 255 }
@@ -186,27 +232,46 @@ Plays script entries end = (id : ThreadId) → PlaysProgram script entries end i
 
 -- A LEGAL, PLAYING, FINISHED HISTORY OF A SCRIPT, and the state that it leaves
 
--- Each thread line's thread runs, and the other numbers are dead and had no thread yet.
+-- Each thread line's thread runs, and the other numbers are dead with the versions that they had last.
 abbrev pub opened_for : Script → KernelState
-opened_for script = opened (replicate script.table 0) (length script.threads)
+opened_for script = opened script.aged (length script.threads)
 
 pub record IsHistory (script : Script) (entries : List Entry) (end : KernelState) : Type 0 where
   pub legal : IsReplay (opened_for script) entries end
   pub plays : Plays script entries end
   pub finished : IsFinished end
 
--- A POSITION AS IT IS KEPT: not the operations that are left, but the place from which on they stand in the program
+-- RANGES: the phases of a script name numbers of the table, versions from 1 to 1,048,575 and priorities up to 63, where the
+-- replies do.
 
-pub record Place : Type 0 where
-  pub registers : Registers
-  pub replying : Bool
-  pub program : ℕ
-  pub at : ℕ
-  pub ended : Bool
+pub record IsInRange (table : ℕ) (id : ThreadId) : Type 0 where
+  pub number : id.number < table
+  pub first : 1 ≤ id.version
+  pub last : id.version ≤ 1048575
 
-abbrev pub left_in : List Operation → ℕ → Bool → Option (List Operation)
-left_in ops at true = None
-left_in ops at false = Some (drop at ops)
+pub record AreInRange (table : ℕ) (r : Registers) : Type 0 where
+  pub last : IsInRange table r.last
+  pub created : IsInRange table r.created
 
-abbrev pub position_in : Script → Place → Position
-position_in script p = record { registers = p.registers; replying = p.replying; left = left_in (operations_of script p.program) p.at p.ended }
+abbrev pub TellsInRange : ℕ → Option Reply → Type 0
+TellsInRange table (Some (reply.Got from message)) = IsInRange table from
+TellsInRange table (Some (reply.Made id)) = IsInRange table id
+TellsInRange table other = Unit {0}
+
+abbrev pub NamesInRange : Script → Phase → Type 0
+NamesInRange script (phase.Send to message soon joined) = IsInRange script.table to
+NamesInRange script (phase.Receive (Some from) soon) = IsInRange script.table from
+NamesInRange script (phase.Receive None soon) = Unit {0}
+NamesInRange script (phase.Create program priority) = (program < length script.programs) × (priority ≤ 63)
+NamesInRange script (phase.Destroy victim) = IsInRange script.table victim
+NamesInRange script (phase.Reply to message soon) = IsInRange script.table to
+NamesInRange script phase.End = Unit {0}
+
+abbrev pub AllLeft : Script → Option (List Operation) → Type 0
+AllLeft script None = Unit {0}
+AllLeft script (Some ops) = AllByRecursion (IsOperation script.table (length script.programs)) ops
+
+-- a position whose registers are in range, and of whose program operations of the script are left
+pub record IsWithin (script : Script) (p : Position) : Type 0 where
+  pub registers : AreInRange script.table p.registers
+  pub left : AllLeft script p.left

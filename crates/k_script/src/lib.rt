@@ -1,58 +1,72 @@
-//! The script: which bytes are a text of one, what it says, and which phases a thread of it makes, one after the other.
+//! What a script says: its programs, its threads and its schedule; how long it is; and which calls a thread of it makes, one
+//! after the other.
 //!
-//! A script is what a run starts from: the number of thread numbers, the programs, and the first threads with their
-//! priorities and programs. Its operations are the IPC operations of L4 (Liedtke, *L4 Reference Manual 2.0*) and the two
-//! thread calls. Its text is this project's own.
+//! A script is what a run starts from. Its operations are the IPC operations of L4 (Liedtke, *L4 Reference Manual 2.0*), the
+//! two thread calls, work, and repeats. The language is this project's own, and so are the limits and weights. The text of a
+//! script is no matter of this crate.
 //!
-//! # The text
+//! # What a script is
 //!
-//! A line ends with a line feed, which the last may lack. A `;` and what follows in its line is a comment. Spaces, tabs and
-//! carriage returns separate words. Outside comments other bytes than these and 33 to 126 make a line bad. Lines without
-//! words say nothing, and are counted. The other lines come in this order:
+//! - Numbers of threads: 1 to 64. Each number has a version that it had last, 0 where it had none, at most 1,048,575.
+//! - Programs: at most 255, numbered from 0. A name is 1 to 16 of `a` to `z`, `0` to `9` and `_`, and is given once. At most
+//!   4,096 operations each; repeats are closed, and at most four deep.
+//! - Threads: at least one, the first of the numbers from 0, on numbers that had no thread before.
+//! - A schedule: at most 10,000 events, in the order of their steps, each thread started once at most; and for two carriers or
+//!   more at most 10,000 turns of 1,000,000 steps in sum.
 //!
-//! | Line | How often | Ranges |
-//! |---|---|---|
-//! | `kernel 1` | once, the first | |
-//! | `table N` | once | 1 to 64 |
-//! | `program NAME`, operations, `end` | at most 255 | at most 4,096 operations each, a name is given once |
-//! | `thread PRIO NAME` | at least once, at most N times | 0 to 63, an earlier program |
+//! `IsScript` (specs/Limits.antt) is all of this, and holds of every [`Script`].
 //!
-//! A NAME is 1 to 16 of `a` to `z`, `0` to `9` and `_`. The operations are `send #T A B` and `receive #T`, with T below N, A
-//! and B at most 4,294,967,295, and the timeout never. Numbers are decimal, without leading zeros. There are at most
-//! 1,048,576 bytes. The language has more lines and operations, which are not read yet: a line that uses one is refused with
-//! [`Why::Later`]. What they mean is defined here all the same.
+//! # What it does
+//!
+//! A program is its operations one after another, what a repeat repeats as often as it says (`flat`, specs/Flat.antt, and the
+//! law [`a_program_is_written_out`]). It goes on with its next operation whatever the reply to the last call was. The
+//! registers `last`, `made` and `got` are filled from the replies to the thread's own calls. A reply is a send, and in version
+//! 2 of the language a call of its own; one that was sent is followed by an open receive. Work is loads of the thread's own
+//! state word, between two calls.
 //!
 //! # What is promised
 //!
-//! - [`read`] answers a script exactly where the bytes are a text of one, and that one (specs/Grammar.antt: `IsText`). A text
-//!   is no text of another script. Else the first bad line is named, with its reason (specs/Reading.antt: `read_of`).
-//! - The calls that read a [`Script`] give its parts.
-//! - [`next_phase`] gives the phases of a program in their order, with the registers filled from the replies to the thread's
-//!   own calls (specs/Plays.antt: `phase_next`, `moved`). A reply that was sent is followed by an open receive.
+//! - [`Script::of`] is the script of its parts, and the calls that read a [`Script`] give its parts.
+//! - [`next_phase`] gives exactly the next operation of the program written out, as a call with the registers filled or as
+//!   work, or the end (`next_of`, `went_on`, specs/Plays.antt); [`next_call`] the next call, with the work passed over
+//!   (`phase_next`, `moved`). The ids that it names are in range ([`a_phase_is_in_range`]).
+//! - [`weight`] and [`phases`] are exactly the sums of specs/Weight.antt, standing still at the end of u64; a script makes as
+//!   many calls as a quarter of its weight, at most ([`calls_weigh_four`]), and each call takes from what its program counts
+//!   ([`a_program_goes_on`], [`a_start_is_counted`]).
+//! - [`big`] is exactly the generator's script (specs/Big.antt).
 //! - `IsHistory` (specs/Plays.antt) says what a whole run shows: a legal history, in which every thread's calls are the phases
 //!   of its program, and which leaves a finished state.
 //!
-//! Reading takes a time linear in the bytes; a line with a name looks it up among at most 255. A next phase costs the same at
-//! every place of a program.
+//! A position has a constant size. A next phase reads eight repeats and agains at most, twice as many as may be open: repeats
+//! with nothing in them, however many stand in a row and whatever turns they have, are passed over at once. A script reads each
+//! operation once when it is made, and so do weight and phases; none of them takes memory.
 #![tactic(auto)]
 
-mod draft;
-mod fault;
+mod cursor;
+mod generator;
 mod laws;
-mod line;
-mod numbers;
+mod lines;
+mod listing;
+mod name;
 mod operation;
 mod position;
-mod reader;
+mod registers;
+mod scale;
 mod script;
+mod skips;
 #[cfg(test)]
 mod tests;
-mod words;
 
-pub use fault::{ScriptFault, Why};
-pub use laws::{a_line_is_spelled, a_number_is_spelled, a_program_goes_on, a_text_is_read};
-pub use line::Line;
+pub use generator::big;
+pub use laws::{
+    a_phase_is_in_range, a_program_goes_on, a_program_is_counted, a_program_is_written_out,
+    a_start_is_counted, calls_weigh_four, work_is_passed_over,
+};
+pub use lines::{AtLine, AtWhat, Item, ThreadLine};
+pub use listing::Listing;
+pub use name::Name;
 pub use operation::{Operation, Value, Who};
-pub use position::{Next, Position, next_phase};
-pub use reader::read;
-pub use script::{Name, Script, ThreadLine, phases};
+pub use position::{Position, next_call, next_phase};
+pub use registers::{Next, Registers};
+pub use scale::{phases, weight};
+pub use script::{Parts, Script};

@@ -3,7 +3,7 @@
 /// A thread that an operation names.
 #[derive(Clone, Copy, Debug, PartialEq, Eq)]
 pub enum Who {
-    /// The first thread of this number: 0 to 63.
+    /// The first thread of this number: 0 to 63, below the size of the table.
     Number(u8),
     /// The sender of the message last got.
     Last,
@@ -21,7 +21,8 @@ pub enum Value {
     Got1,
 }
 
-/// An operation: the IPC calls of L4 (Liedtke, *L4 Reference Manual 2.0*), and the two thread calls.
+/// An operation: the IPC calls of L4 (Liedtke, *L4 Reference Manual 2.0*), the two thread calls, and what makes a program
+/// longer: work and repeats.
 ///
 /// `zero` says that the timeout is zero; otherwise it is never. Of a call and of a reply it is the timeout of the send.
 #[derive(Clone, Copy, Debug, PartialEq, Eq)]
@@ -60,4 +61,16 @@ pub enum Operation {
     Destroy {
         who: Who,
     },
+    /// So many loads of the thread's own state word, and no call.
+    Work {
+        /// 1 to 4,294,967,295.
+        count: u32,
+    },
+    /// What stands between this and its `Again` is done so many times.
+    Repeat {
+        /// 1 to 65,535.
+        count: u16,
+    },
+    /// The end of the innermost repeat that is open.
+    Again,
 }

@@ -1,171 +1,42 @@
-// The place of a thread in its program, and its next phase.
-ghost use Rattle.std.specs.Prelude.{◌≡◌, ◌&&◌, option_map};
-ghost use Rattle.k_ids.specs.declared.calls.Phase.TheVariants as phase;
+// The place of a thread in its program, and what it does next.
+ghost use Rattle.std.specs.Prelude.{◌≡◌, ◌&&◌, true, false};
 ghost use Rattle.k_script.specs.Script.{Script};
-ghost use Rattle.k_script.specs.Plays.{start_of, position_in, phase_next, moved, reply_phase, filled, id_of, value_of, message_of, phase_of, is_sent, is_reply};
+ghost use Rattle.k_script.specs.Limits.{IsScript};
+ghost use Rattle.k_script.specs.Place.{position_in, IsPlace};
+ghost use Rattle.k_script.specs.Plays.{start_of, phase_next, moved, next_of, went_on, is_sent, is_reply};
 
-use crate::operation::{Operation, Value, Who};
+use crate::cursor::Cursor;
+use crate::operation::Operation;
+use crate::registers::{Next, Registers};
 use crate::script::Script;
 use k_ids::{Message, Phase, Reply, ThreadId};
 use std::marker::Model;
 
-/// What a thread does next.
-#[derive(Clone, Copy, Debug, PartialEq, Eq)]
-pub enum Next {
-    /// Its next call.
-    Phase(Phase),
-    /// So many loads of its own state word, and no call: 1 to 4,294,967,295.
-    Work(u32),
-}
-
-/// The registers of a thread, which are filled from the replies to its calls.
-#[derive(Clone, Copy, Debug, PartialEq, Eq)]
-pub struct Registers {
-    /// The sender of the message last got.
-    pub last: ThreadId,
-    /// The thread last made.
-    pub created: ThreadId,
-    /// The message last got.
-    pub got: Message,
-}
-
-impl Registers {
-    fn filled(self, last: Option<Reply>) -> Registers
-        ensures { result ≡ filled self last }
-    {
-        match last {
-            Some(Reply::Got { from, message }) => Registers {
-                last: from,
-                got: message,
-                ..self
-            },
-            Some(Reply::Made { id }) => Registers {
-                created: id,
-                ..self
-            },
-            _ => self,
-        }
-    }
-
-    fn id(self, who: Who) -> ThreadId
-        ensures { result ≡ id_of self who }
-    {
-        match who {
-            Who::Number(number) => ThreadId { number, version: 1 },
-            Who::Last => self.last,
-            Who::Made => self.created,
-        }
-    }
-
-    fn value(self, value: Value) -> u32
-        ensures { result ≡ value_of self value }
-    {
-        match value {
-            Value::Number(number) => number,
-            Value::Got0 => self.got.low,
-            Value::Got1 => self.got.high,
-        }
-    }
-
-    fn message(self, low: Value, high: Value) -> Message
-        ensures { result ≡ message_of self low high }
-    {
-        Message {
-            low: self.value(low),
-            high: self.value(high),
-        }
-    }
-
-    fn reply_phase(self, version: u8, message: Message, zero: bool) -> Phase
-        ensures { result ≡ reply_phase version self.last message zero }
-    {
-        let to = self.last;
-        if version == 2 {
-            Phase::Reply { to, message, zero }
-        } else {
-            Phase::Send {
-                to,
-                message,
-                zero,
-                joined: false,
-            }
-        }
-    }
-
-    fn send_phase(self, to: Who, message: Message, zero: bool, joined: bool) -> Phase
-        ensures { result ≡ phase.Send (id_of self to) message zero joined }
-    {
-        let to = self.id(to);
-        Phase::Send {
-            to,
-            message,
-            zero,
-            joined,
-        }
-    }
-
-    fn phase(self, version: u8, operation: Operation) -> Phase
-        ensures { result ≡ phase_of version self operation }
-    {
-        match operation {
-            Operation::Send {
-                to,
-                low,
-                high,
-                zero,
-            } => self.send_phase(to, self.message(low, high), zero, false),
-            Operation::Receive { from, zero } => Phase::Receive {
-                from: self.sender(from),
-                zero,
-            },
-            Operation::Call {
-                to,
-                low,
-                high,
-                zero,
-            } => self.send_phase(to, self.message(low, high), zero, true),
-            Operation::Reply { low, high, zero } => {
-                self.reply_phase(version, self.message(low, high), zero)
-            }
-            Operation::Create { program, priority } => Phase::Create { program, priority },
-            Operation::Destroy { who } => Phase::Destroy { who: self.id(who) },
-        }
-    }
-
-    fn sender(self, from: Option<Who>) -> Option<ThreadId>
-        ensures { result ≡ option_map (id_of self) from }
-    {
-        match from {
-            None => None,
-            Some(from) => Some(self.id(from)),
-        }
-    }
-}
-
-/// The place of a thread in its program.
+/// The place of a thread in its program. It has a constant size.
 #[derive(Clone, Copy)]
 pub struct Position {
     registers: Registers,
     replying: bool,
     program: u8,
-    at: u16,
+    cursor: Cursor,
     ended: bool,
 }
 
 impl Model for Position {
-    ghost use Rattle.k_script.specs.Plays.{Place};
+    ghost use Rattle.k_script.specs.Place.{Place};
 
     ghost Value = { Place };
 
-    ghost view = { λ p. record { registers = p.registers; replying = p.replying; program = p.program; at = p.at; ended = p.ended } };
+    ghost view = { λ p. record { registers = p.registers; replying = p.replying; program = p.program; cursor = p.cursor; ended = p.ended } };
 
-    ghost inverse = { λ p. record { registers = p.registers; replying = p.replying; program = p.program; at = p.at; ended = p.ended } };
+    ghost inverse = { λ p. record { registers = p.registers; replying = p.replying; program = p.program; cursor = p.cursor; ended = p.ended } };
 }
 
 impl Position {
     /// The start of a program, for this thread. A number that is no program's has the empty program.
     pub fn start(program: u8, me: ThreadId) -> Position
-        ensures { (script : Script) → position_in script result ≡ start_of script program me }
+        ensures start { (script : Script) → IsScript script → position_in script result ≡ start_of script program me }
+        ensures placed { (script : Script) → IsScript script → IsPlace script result }
     {
         Position {
             registers: Registers {
@@ -175,7 +46,7 @@ impl Position {
             },
             replying: false,
             program,
-            at: 0,
+            cursor: Cursor::start(),
             ended: false,
         }
     }
@@ -206,13 +77,19 @@ fn is_reply(operation: Operation) -> bool
     }
 }
 
-/// Takes in the reply to the last phase, None at the start, and answers the next phase: that of the program's next
-/// operation, or the end behind the last. It costs the same at every place.
+/// Takes in the reply to the last phase, None at the start and after work, and answers what comes next: the next operation of
+/// the program written out, or the end behind the last.
 ///
-/// The position must have been used with no other script; otherwise the phases are those of neither.
+/// It reads eight repeats and agains at most, twice as many as may be open: the agains of the repeats that end behind the last
+/// operation, one for the next turn of a repeat, and the repeats that begin before the next operation. Those with nothing in
+/// them it passes over all at once, as many as there are, since the script keeps where they end.
+///
+/// Condition: the position was used with this script alone.
 pub fn next_phase(script: &Script, position: &mut Position, last: Option<Reply>) -> Next
-    ensures phase { result ≡ Next.Phase (phase_next script.now.version (position_in script.now position.old) last) }
-    ensures moved { position_in script.now position.new ≡ moved (position_in script.now position.old) last }
+    requires { IsPlace script.now position.old }
+    ensures next { result ≡ next_of script.now.version (position_in script.now position.old) last }
+    ensures went { position_in script.now position.new ≡ went_on (position_in script.now position.old) last }
+    ensures placed { IsPlace script.now position.new }
 {
     if position.ended {
         return Next::Phase(Phase::End);
@@ -226,11 +103,32 @@ pub fn next_phase(script: &Script, position: &mut Position, last: Option<Reply>)
             zero: false,
         });
     }
-    let Some(operation) = script.operation(position.program, position.at) else {
+    let program = position.program;
+    let Some(operation) = position
+        .cursor
+        .next(script.listed(program), script.skips(program))
+    else {
         position.ended = true;
         return Next::Phase(Phase::End);
     };
-    position.at += 1;
     position.replying = is_reply(operation);
-    Next::Phase(position.registers.phase(script.version(), operation))
+    position.registers.next(script.version(), operation)
+}
+
+/// Takes in the reply to the last phase, None at the start, and answers the next phase. Work is passed over.
+///
+/// Condition: the position was used with this script alone.
+pub fn next_call(script: &Script, position: &mut Position, last: Option<Reply>) -> Phase
+    requires { IsPlace script.now position.old }
+    ensures phase { result ≡ phase_next script.now.version (position_in script.now position.old) last }
+    ensures moved { position_in script.now position.new ≡ moved (position_in script.now position.old) last }
+    ensures placed { IsPlace script.now position.new }
+{
+    let mut reply = last;
+    loop {
+        match next_phase(script, position, reply) {
+            Next::Phase(phase) => return phase,
+            Next::Work(_) => reply = None,
+        }
+    }
 }

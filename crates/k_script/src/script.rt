@@ -1,163 +1,101 @@
-// A script: its programs and its threads.
-ghost use Rattle.std.specs.Prelude.{◌≡◌, ◌≤◌, ◌<◌, ◌+◌, length, Some, None, OnOk, OnErr, IfSome, OnSome, ◌++◌, ◌∷◌, [], slice_get, take};
-ghost use Rattle.std.specs.List.{sum_by};
-ghost use Rattle.std.specs.Str.{bytes_eq};
-ghost use Rattle.k_script.specs.Script.{operations_of, program_in, phases_of, phases_of_program, phases_of_operation};
+// A script: its programs, its threads and its schedule.
+ghost use Rattle.std.specs.Prelude.{◌≡◌, ◌≤◌, ◌<◌, length, slice_index};
+ghost use Rattle.k_script.specs.Script.{operations_of, program_in};
+ghost use Rattle.k_script.specs.Limits.{IsScript};
+ghost use Rattle.k_script.specs.Parts.{script_of};
+ghost use Rattle.k_script.specs.Place.{IsNested};
+ghost use Rattle.k_script.specs.Skips.{AreSkips};
 
+use crate::lines::{AtLine, Item, ThreadLine};
+use crate::listing::Listing;
 use crate::operation::Operation;
-use std::alloc::{AllocError, Global};
 use std::marker::Model;
 
-/// A thread of the script: the first of its number.
-#[derive(Clone, Copy, Debug, PartialEq, Eq)]
-pub struct ThreadLine {
-    /// 0 to 63, of which 63 is the highest.
-    pub priority: u8,
-    /// The number of its program.
-    pub program: u8,
-}
-
-/// The name of a program: 1 to 16 letters, digits and underscores.
+/// What a script is made of. Programs and threads are numbered from 0, in their order.
 #[derive(Drop)]
-pub struct Name {
-    bytes: [u8; 16],
-    len: usize,
+pub struct Parts {
+    /// 1 or 2.
+    pub version: u8,
+    /// How many thread numbers there are: 1 to 64.
+    pub table: u8,
+    /// 1 to 8.
+    pub carriers: u8,
+    /// The report counts the steps of each call.
+    pub show_steps: bool,
+    /// For each number the version that it had last, 0 where it had none: at most 1,048,575. Those past the table count for
+    /// nothing.
+    pub aged: [u32; 64],
+    pub programs: Vec<Listing>,
+    pub threads: Vec<ThreadLine>,
+    pub at_lines: Vec<AtLine>,
+    pub turns: Vec<Item>,
 }
 
-impl Model for Name {
-    ghost use Rattle.std.specs.Prelude.{List, ℕ, ◌≤◌, take};
-
-    ghost Value = { List ℕ };
-
-    ghost view = { λ n. take n.len n.bytes };
-
-    ghost invariant = { λ n. n.len ≤ 16 };
-}
-
-impl Name {
-    /// Condition: at most 16 bytes.
-    pub(crate) fn of(word: &[u8]) -> Name
-        requires { length word.now ≤ 16 }
-        ensures { result ≡ word.now }
-    {
-        let mut bytes = [0u8; 16];
-        let len = word.len();
-        bytes[..len].copy_from_slice(word);
-        Name { bytes, len }
-    }
-
-    pub fn as_bytes(&self) -> &[u8]
-        ensures { result.now ≡ self.now }
-    {
-        &self.bytes[..self.len]
-    }
-
-    pub(crate) fn is(&self, other: &Name) -> bool
-        ensures { result ≡ bytes_eq self.now other.now }
-    {
-        self.as_bytes() == other.as_bytes()
-    }
-}
-
-/// A program: its name and its operations, at most 4,096.
-#[derive(Drop)]
-pub(crate) struct Listing {
-    name: Name,
-    operations: Vec<Operation>,
-}
-
-impl Model for Listing {
-    ghost use Rattle.std.specs.Prelude.{◌≤◌, vec_len};
-    ghost use Rattle.k_script.specs.Script.{Program};
-
-    ghost Value = { Program };
-
-    ghost view = { λ p. record { name = p.name; operations = p.operations.items } };
-
-    ghost invariant = { λ p. vec_len p.operations ≤ 4096 };
-}
-
-impl Listing {
-    pub(crate) fn new(alloc: Global, name: Name) -> Listing
-        ensures { result ≡ record { name = name; operations = [] } }
-    {
-        Listing {
-            name,
-            operations: Vec::new(alloc),
-        }
-    }
-
-    pub(crate) fn name(&self) -> &[u8]
-        ensures { result.now ≡ self.now.name }
-    {
-        self.name.as_bytes()
-    }
-
-    pub(crate) fn is_named(&self, name: &Name) -> bool
-        ensures { result ≡ bytes_eq self.now.name name.now }
-    {
-        self.name.is(name)
-    }
-
-    pub(crate) fn operations(&self) -> &[Operation]
-        ensures items { result.now ≡ self.now.operations }
-        ensures short { length result.now ≤ 4096 }
-    {
-        &self.operations
-    }
-
-    /// Condition: fewer than 4,096 operations.
-    pub(crate) fn push(&mut self, operation: Operation) -> Result<(), AllocError>
-        requires { length self.old.operations < 4096 }
-        ensures ok { OnOk result (self.new ≡ record self.old { operations = self.old.operations ++ operation ∷ [] }) }
-        ensures err { OnErr result (self.new ≡ self.old) }
-    {
-        self.operations.push(operation)?;
-        Ok(())
-    }
-}
-
-/// A script that was read. Its programs are numbered from 0, and thread t is the first of number t.
+/// A script within its limits. Its programs are numbered from 0, and thread t is the first of number t.
 #[derive(Drop)]
 pub struct Script {
     version: u8,
     table: u8,
+    carriers: u8,
+    show_steps: bool,
+    aged: [u32; 64],
     programs: Vec<Listing>,
     threads: Vec<ThreadLine>,
+    at_lines: Vec<AtLine>,
+    turns: Vec<Item>,
 }
 
 impl Model for Script {
-    ghost use Rattle.std.specs.Prelude.{◌≤◌, vec_len};
+    ghost use Rattle.std.specs.Prelude.{take};
     ghost use Rattle.k_script.specs.Script.{Script};
+    ghost use Rattle.k_script.specs.Limits.{IsScript};
 
     ghost Value = { Script };
 
-    ghost view = { λ s. record { version = s.version; table = s.table; programs = s.programs.items; threads = s.threads.items } };
+    ghost view = { λ s. record { version = s.version; table = s.table; carriers = s.carriers; show_steps = s.show_steps; aged = take s.table s.aged; programs = s.programs.items; threads = s.threads.items; at_lines = s.at_lines.items; turns = s.turns.items } };
 
-    ghost invariant = { λ s. (vec_len s.programs ≤ 255) × (vec_len s.threads ≤ 255) };
+    ghost invariant = { λ s. IsScript (record { version = s.version; table = s.table; carriers = s.carriers; show_steps = s.show_steps; aged = take s.table s.aged; programs = s.programs.items; threads = s.threads.items; at_lines = s.at_lines.items; turns = s.turns.items }) };
+}
+
+/// Closes each program: from now on their empty repeats are passed over. They stay the same programs.
+fn close_all(programs: &mut Vec<Listing>)
+    ensures { programs.new.items ≡ programs.old.items }
+{
+    for program in programs.iter_mut() {
+        program.close();
+    }
 }
 
 impl Script {
-    /// Condition: at most 255 programs and 255 threads.
-    pub(crate) fn of(
-        version: u8,
-        table: u8,
-        programs: Vec<Listing>,
-        threads: Vec<ThreadLine>,
-    ) -> Script
-        requires programs { length programs.items ≤ 255 }
-        requires threads { length threads.items ≤ 255 }
-        ensures { result ≡ record { version = version; table = table; programs = programs.items; threads = threads.items } }
+    /// The script of these parts. Condition: they are within the limits.
+    pub fn of(parts: Parts) -> Script
+        requires { IsScript (script_of parts) }
+        ensures { result ≡ script_of parts }
     {
+        let aged = parts.aged;
+        let mut programs = parts.programs;
+        close_all(&mut programs);
         Script {
-            version,
-            table,
+            version: parts.version,
+            table: parts.table,
+            carriers: parts.carriers,
+            show_steps: parts.show_steps,
+            aged,
             programs,
-            threads,
+            threads: parts.threads,
+            at_lines: parts.at_lines,
+            turns: parts.turns,
         }
     }
 
-    /// The version of the script's language: 1.
+    /// Every script is within the limits. It does nothing: it is for proofs.
+    pub fn holds(&self)
+        ensures { IsScript self.now }
+    {
+        let _ = &self.version;
+    }
+
+    /// The version of the script's language: 1 or 2. In version 2 a reply is one call of the kernel.
     pub fn version(&self) -> u8
         ensures { result ≡ self.now.version }
     {
@@ -171,7 +109,36 @@ impl Script {
         self.table
     }
 
-    /// How many programs there are: 0 to 255.
+    /// How many carriers there are: 1 to 8.
+    pub fn carriers(&self) -> u8
+        ensures { result ≡ self.now.carriers }
+    {
+        self.carriers
+    }
+
+    /// Whether the report counts the steps of each call.
+    pub fn show_steps(&self) -> bool
+        ensures { result ≡ self.now.show_steps }
+    {
+        self.show_steps
+    }
+
+    /// The version that a number had last: 0 to 1,048,575, 0 where it had none. Condition: the number is in the table.
+    pub fn aged(&self, number: u8) -> u32
+        requires { number < self.now.table }
+        ensures { result ≡ slice_index self.now.aged number }
+    {
+        self.aged[usize::from(number)]
+    }
+
+    /// The versions that the numbers of the table had last, in their order.
+    pub fn versions(&self) -> &[u32]
+        ensures { result.now ≡ self.now.aged }
+    {
+        &self.aged[..usize::from(self.table)]
+    }
+
+    /// How many programs there are: 1 to 255.
     pub fn programs(&self) -> u8
         ensures { result ≡ length self.now.programs }
     {
@@ -194,6 +161,27 @@ impl Script {
         self.programs[usize::from(program)].operations()
     }
 
+    /// The operations of a program. A number that is no program's has none.
+    pub(crate) fn listed(&self, program: u8) -> &[Operation]
+        ensures operations { result.now ≡ operations_of self.now program }
+        ensures nested { IsNested result.now }
+    {
+        match self.programs.get(usize::from(program)) {
+            None => &[],
+            Some(program) => program.operations(),
+        }
+    }
+
+    /// The places behind the empty repeats that begin with each operation of a program.
+    pub(crate) fn skips(&self, program: u8) -> &[u16]
+        ensures { AreSkips (operations_of self.now program) result.now }
+    {
+        match self.programs.get(usize::from(program)) {
+            None => &[],
+            Some(program) => program.skips(),
+        }
+    }
+
     /// The threads in the order of their numbers: at least one, and at most as many as the table has numbers.
     pub fn threads(&self) -> &[ThreadLine]
         ensures { result.now ≡ self.now.threads }
@@ -201,55 +189,17 @@ impl Script {
         &self.threads
     }
 
-    fn phases(&self, program: u8) -> u64
-        ensures exact { result ≡ phases_of_program (operations_of self.now program) }
-        ensures few { result ≤ 8193 }
+    /// The events of the schedule, in their order: at most 10,000.
+    pub fn at_lines(&self) -> &[AtLine]
+        ensures { result.now ≡ self.now.at_lines }
     {
-        match self.programs.get(usize::from(program)) {
-            None => 1,
-            Some(program) => phases_of_program(program.operations()),
-        }
+        &self.at_lines
     }
 
-    /// An operation of a program. A number that is no program's has none.
-    pub(crate) fn operation(&self, program: u8, at: u16) -> Option<Operation>
-        ensures operation { result ≡ slice_get (operations_of self.now program) at }
-        ensures short { OnSome result (at < 4096) }
+    /// The turns of the schedule, in their order: at most 10,000.
+    pub fn turns(&self) -> &[Item]
+        ensures { result.now ≡ self.now.turns }
     {
-        let program = self.programs.get(usize::from(program))?;
-        program.operations().get(usize::from(at)).copied()
+        &self.turns
     }
-}
-
-fn phases_of_operation(operation: Operation) -> u64
-    ensures exact { result ≡ phases_of_operation operation }
-    ensures few { result ≤ 2 }
-{
-    match operation {
-        Operation::Reply { .. } => 2,
-        _ => 1,
-    }
-}
-
-fn phases_of_program(operations: &[Operation]) -> u64
-    requires { length operations.now ≤ 4096 }
-    ensures exact { result ≡ phases_of_program operations.now }
-    ensures few { result ≤ 8193 }
-{
-    let mut phases = 1;
-    for operation in operations {
-        phases += phases_of_operation(*operation);
-    }
-    phases
-}
-
-/// How many calls the threads of the script make at most, their ends among them; those of created threads are left out.
-pub fn phases(script: &Script) -> u64
-    ensures { result ≡ phases_of script.now }
-{
-    let mut phases = 0;
-    for thread in &script.threads {
-        phases += script.phases(thread.program);
-    }
-    phases
 }

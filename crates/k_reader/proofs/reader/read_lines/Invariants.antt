@@ -1,0 +1,13 @@
+use Rattle.std.proofs.Common.{◌≡◌, ◌+◌, ◌≤◌, length}
+use Rattle.k_lines.specs.Words.{lines_of}
+use Rattle.k_reader.specs.Reading.{read_lines}
+use Rattle.k_reader.proofs.reader.read_lines.Given as goal
+
+abbrev pub invariant-loop-rest : goal.invariant-loop-rest
+invariant-loop-rest l =
+    (read_lines l.sketch (l.lines + 1) (lines_of l.rest) ≡ read_lines l.fn.sketch (l.before + 1) (lines_of l.bytes))
+    × (l.lines + length (lines_of l.rest) ≡ l.before + length (lines_of l.bytes))
+    × (l.lines + length l.rest ≤ 1048576)
+
+abbrev pub decreases-loop-rest : goal.decreases-loop-rest
+decreases-loop-rest l = length l.rest

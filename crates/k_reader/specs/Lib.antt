@@ -1,0 +1,5 @@
+pub mod Draft
+pub mod Reading
+pub mod Refused
+pub mod Grammar
+pub mod Later

@@ -1,0 +1,9 @@
+pub mod Ends
+pub mod Going
+pub mod Histories
+pub mod Made
+pub mod Moves
+pub mod Opens
+pub mod Places
+pub mod Playing
+pub mod Plays

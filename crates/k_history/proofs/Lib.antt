@@ -1,0 +1,9 @@
+mod Cut
+mod Judged
+mod Options
+mod Parts
+mod Prefixes
+mod Read
+mod Spelled
+pub mod Spelling
+pub mod Unique

@@ -1,1 +1,7 @@
+pub mod Fits
+pub mod Inside
+pub mod Judging
+pub mod Lines
+pub mod Reading
 pub mod Report
+pub mod Verdicts

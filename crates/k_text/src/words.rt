@@ -1,5 +1,6 @@
 // The words of threads, calls, outcomes and replies, each behind a space.
 ghost use Rattle.std.specs.Prelude.{◌≡◌, ◌+◌, ◌≤◌, [], ◌∷◌, ◌++◌, length};
+ghost use Rattle.k_ids.specs.declared.calls.Phase.TheVariants as phase;
 ghost use Rattle.k_text.specs.Texts.{act_words, full_words, found_words, id_word, is_printed, message_words, now_words, outcome_words, phase_words, reply_words, result_words, spaced, status_words};
 
 use crate::line::Line;
@@ -94,6 +95,21 @@ impl Line {
         }
     }
 
+    fn push_receive(&mut self, from: Option<ThreadId>, zero: bool)
+        requires { length self.old + 28 ≤ 128 }
+        ensures text { self.new ≡ self.old ++ spaced (phase_words (phase.Receive from zero)) }
+        ensures short { length self.new ≤ length self.old + 28 }
+    {
+        match from {
+            Some(from) => {
+                self.push_word(b"receive");
+                self.push_id(from);
+            }
+            None => self.push_word(b"wait"),
+        }
+        self.push_now(zero);
+    }
+
     /// Appends a phase, with ` now` where its timeout is zero.
     pub fn push_phase(&mut self, phase: Phase)
         requires { length self.old + 47 ≤ 128 }
@@ -112,18 +128,7 @@ impl Line {
                 self.push_message(message);
                 self.push_now(zero);
             }
-            Phase::Receive {
-                from: Some(from),
-                zero,
-            } => {
-                self.push_word(b"receive");
-                self.push_id(from);
-                self.push_now(zero);
-            }
-            Phase::Receive { from: None, zero } => {
-                self.push_word(b"wait");
-                self.push_now(zero);
-            }
+            Phase::Receive { from, zero } => self.push_receive(from, zero),
             Phase::Create { program, priority } => {
                 self.push_word(b"create");
                 self.push_small(program);

@@ -1,0 +1,8 @@
+use Rattle.k_ipc.specs.Hands.{nothing}
+use Rattle.k_ipc.proofs.receive.ReceiveLocation.asked.Goals as goal
+
+pub returns-in-Outside-clause-step : goal.returns-in-Outside-clause-step
+returns-in-Outside-clause-step c = rw c.in-Outside.is (c.outside_step.ensures c.args.own nothing)
+
+pub returns-in-Pushing-clause-step : goal.returns-in-Pushing-clause-step
+returns-in-Pushing-clause-step c = rw c.in-Pushing.is (c.pushing_step.ensures.step c.args.own)

@@ -1,0 +1,9 @@
+pub mod Words
+pub mod Hands
+pub mod Went
+pub mod Create
+pub mod CreateStages
+pub mod Destroy
+pub mod DestroyStages
+pub mod Runs
+pub mod Told

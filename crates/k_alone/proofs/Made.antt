@@ -1,0 +1,123 @@
+-- What a run comes to, put together from its parts.
+use Rattle.std.proofs.Common.{◌≡◌, ℕ, ◌<◌, ◌≤◌, Bool, true, false, List, [], ◌∷◌, ◌++◌, refl, sym, ap, ◌∙◌, subst, Some, Ok}
+use Rattle.std.specs.Prelude.{if◌then◌else◌}
+use Rattle.std.proofs.lemmas.Bool.{eq-eqb}
+use Rattle.std.proofs.lemmas.List.{append-nil}
+use Rattle.std.specs.List.{AllByRecursion}
+use Rattle.k_ids.specs.declared.threads.ThreadId.{ThreadId}
+use Rattle.k_ids.specs.declared.threads.Status.{Status}
+use Rattle.k_ids.specs.declared.calls.Reply.{Reply}
+use Rattle.k_ids.specs.declared.calls.Reply.TheVariants as reply
+use Rattle.k_ids.specs.declared.calls.Outcome.{Outcome}
+use Rattle.k_ids.specs.declared.histories.Entry.{Entry}
+use Rattle.k_ids.specs.declared.histories.Event.{Event}
+use Rattle.k_ids.specs.declared.histories.ReplyLine.{ReplyLine}
+use Rattle.k_model.specs.State.{KernelState, same_id, is_run, answered, with_status}
+use Rattle.k_model.specs.Step.{step, outcome_of, is_enabled, sent}
+use Rattle.k_model.specs.History.{IsReplay}
+use Rattle.k_model.specs.Answers.{reply_to}
+use Rattle.k_model.specs.Sound.{IsSound}
+use Rattle.k_model.proofs.Sound.{acted-sound}
+use Rattle.k_model.proofs.Replays.{step_enabled, replay_listed}
+use Rattle.k_alone.specs.Leaves.{Leaves}
+use Rattle.k_alone.specs.Memory.{Shows}
+use Rattle.k_alone.specs.Sound.{IsSoundWords, IsSoundNumbers, IsSoundContexts, IsSoundMemory}
+use Rattle.k_alone.specs.Alone.{Table, Run, Makes, Tells, IsFreed}
+use Rattle.k_alone.proofs.Kept.{SameThreads, sound_memory, sound_state, listed_state, numbers_kept, contexts_kept}
+use Rattle.k_alone.proofs.Runs.{Goes}
+
+replay_sound : (old : KernelState) (es : List Entry) (new : KernelState) → IsSound old → IsReplay old es new → IsSound new
+replay_sound old [] new s h = subst IsSound (sym h) s
+replay_sound old (e ∷ es) new s h =
+    let en = step_enabled old e.event (h.0, e.outcome) h.1 in
+    let mid = subst (λ (r : KernelState × Outcome). IsSound r.0) en.1 (acted-sound old e.event.who e.event.serial e.event.act en.0 s) in
+    replay_sound h.0 es new mid h.2
+
+-- an enabled event, in front of a replay
+pub replay_on : (k mid new : KernelState) (event : Event) (o : Outcome) (es : List Entry) → is_enabled k event ≡ true → outcome_of k event ≡ (mid, o) → IsReplay mid es new → IsReplay k (record { event = event; outcome = o } ∷ es) new
+unfolding step
+replay_on k mid new event o es may does rest = (mid, rw may (ap (λ (r : KernelState × Outcome). Ok r) does), rest)
+
+-- the parts of a run's outcome
+pub record Parts {S : Type 0} (start final : Run S) (k k' : KernelState) (event : Event) (o : Outcome) (freed : List Entry) (lines : List ReplyLine) : Type 0 where
+  pub shown : Shows start.memory k
+  pub good : IsSoundMemory start.memory
+  pub frees : AllByRecursion IsFreed freed
+  pub entries : final.entries ≡ record { event = event; outcome = o } ∷ freed
+  pub legal : IsReplay k (record { event = event; outcome = o } ∷ freed) k'
+  pub shows : Shows final.memory k'
+  pub size : final.memory.size ≡ start.memory.size
+  pub room : (n : ℕ) → (final.memory.queue n).room ≡ (start.memory.queue n).room
+  pub words : IsSoundWords final.memory
+  pub numbers : IsSoundNumbers final.memory
+  pub contexts : IsSoundContexts final.memory
+  pub replies : k'.replies ≡ k.replies ++ lines
+  pub tells : Tells final.went (k'.place event.who.number).status (reply_to lines event.who event.serial)
+  pub leaves : Leaves event o lines start.memory final.memory
+
+pub makes : {S : Type 0} (t : Table S) (start final : Run S) (k k' : KernelState) (event : Event) (o : Outcome) (freed : List Entry) (lines : List ReplyLine) → Goes t start final → Parts start final k k' event o freed lines → Makes t start k event
+makes t start final k k' event o freed lines g p =
+    let s = sound_state start.memory k p.shown p.good in
+    let l = listed_state start.memory k p.shown p.good in
+    record {
+      steps = g.steps;
+      final = final;
+      runs = g.runs;
+      able = g.able;
+      outcome = o;
+      freed = freed;
+      frees = p.frees;
+      entries = p.entries;
+      state = k';
+      legal = subst (λ (es : List Entry). IsReplay k es k') (sym p.entries) p.legal;
+      shows = p.shows;
+      sound = sound_memory final.memory k' p.shows (subst (λ (n : ℕ). n ≤ 64) (sym p.size) p.good.small) (λ n l. p.room n ∙ p.good.room n (subst (λ (x : ℕ). n < x) p.size l) ∙ sym p.size) p.words p.numbers p.contexts (replay_sound k (record { event = event; outcome = o } ∷ freed) k' s p.legal) (replay_listed k (record { event = event; outcome = o } ∷ freed) k' s l p.legal);
+      lines = lines;
+      replies = p.replies;
+      tells = p.tells;
+      leaves = p.leaves;
+    }
+
+-- one event, and the same threads
+pub makes_one : {S : Type 0} (t : Table S) (start final : Run S) (k k' : KernelState) (event : Event) (o : Outcome) (lines : List ReplyLine) → Shows start.memory k → IsSoundMemory start.memory → is_enabled k event ≡ true → outcome_of k event ≡ (k', o) → Goes t start final → final.entries ≡ record { event = event; outcome = o } ∷ [] → SameThreads start.memory final.memory → Shows final.memory k' → IsSoundWords final.memory → k'.replies ≡ k.replies ++ lines → Tells final.went (k'.place event.who.number).status (reply_to lines event.who event.serial) → Leaves event o lines start.memory final.memory → Makes t start k event
+makes_one t start final k k' event o lines h good may does g es same h' words replies tells leaves =
+    makes t start final k k' event o [] lines g (record {
+      shown = h;
+      good = good;
+      frees = tt;
+      entries = es;
+      legal = replay_on k k' k' event o [] may does refl;
+      shows = h';
+      size = same.size;
+      room = same.room;
+      words = words;
+      numbers = numbers_kept start.memory final.memory same good.numbers;
+      contexts = contexts_kept start.memory final.memory same good.contexts;
+      replies = replies;
+      tells = tells;
+      leaves = leaves;
+    })
+
+-- REPLIES
+
+pub same_self : (id : ThreadId) → same_id id id ≡ true
+same_self id = rw (eq-eqb id.number id.number refl, eq-eqb id.version id.version refl) refl
+
+-- the first line is the reply to its call
+pub reply_first : (me : ThreadId) (serial : ℕ) (r : Reply) (lines : List ReplyLine) → reply_to (record { id = me; serial = serial; reply = r } ∷ lines) me serial ≡ Some r
+reply_first me serial r lines = rw (same_self me, eq-eqb serial serial refl) refl
+
+-- a line of another thread doesn't count
+pub reply_other : (me : ThreadId) (serial : ℕ) (line : ReplyLine) (lines : List ReplyLine) → same_id line.id me ≡ false → reply_to (line ∷ lines) me serial ≡ reply_to lines me serial
+reply_other me serial line lines ne = rw ne refl
+
+-- the line of a sender whose message has passed
+abbrev pub sent_line : ThreadId → ℕ → Status → List ReplyLine
+sent_line who serial after = if is_run after then record { id = who; serial = serial; reply = reply.Sent } ∷ [] else []
+
+pub sent_replies : (k : KernelState) (who : ThreadId) (serial : ℕ) (after : Status) → (sent k who serial after).replies ≡ k.replies ++ sent_line who serial after
+sent_replies k who serial after = go (is_run after)
+  where
+    go : (b : Bool) → (if b then answered (with_status k who.number after) who serial reply.Sent else with_status k who.number after).replies ≡ k.replies ++ (if b then record { id = who; serial = serial; reply = reply.Sent } ∷ [] else [])
+    go true = refl
+    go false = sym (append-nil k.replies)

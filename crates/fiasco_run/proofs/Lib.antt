@@ -1,8 +1,3 @@
-pub mod Programs
-pub mod Plays
-pub mod Starts
-pub mod Steps
-pub mod Inputs
-pub mod Ends
-pub mod Going
 pub mod Serves
+pub mod Exact
+pub mod One

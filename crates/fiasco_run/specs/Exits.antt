@@ -1,10 +1,11 @@
 -- How a call of the program ends: the number and the text of each status.
 use Rattle.std.specs.Prelude.{ℕ, List, [], ◌∷◌, codes, decimal}
-use Rattle.k_script.specs.declared.fault.Why.{Why}
-use Rattle.k_script.specs.declared.fault.Why.TheVariants as why
-use Rattle.k_script.specs.declared.fault.ScriptFault.{ScriptFault}
-use Rattle.k_script.specs.declared.fault.ScriptFault.TheVariants as fault
+use Rattle.k_reader.specs.declared.fault.Why.{Why}
+use Rattle.k_reader.specs.declared.fault.Why.TheVariants as why
+use Rattle.k_reader.specs.declared.fault.ScriptFault.{ScriptFault}
+use Rattle.k_reader.specs.declared.fault.ScriptFault.TheVariants as fault
 use Rattle.k_text.specs.Texts.{Word, line_text}
+use Rattle.k_history.specs.Verdicts.{verdict_text}
 use Rattle.fiasco_run.specs.declared.exit.Exit.{Exit}
 use Rattle.fiasco_run.specs.declared.exit.Exit.TheVariants as exit
 
@@ -15,6 +16,7 @@ exit_number exit.Usage = 2
 exit_number exit.ReadFault = 3
 exit_number exit.WriteFault = 4
 exit_number exit.NoMemory = 5
+exit_number (exit.Illegal verdict) = 6
 
 abbrev pub why_word : Why → Word
 why_word why.Version = codes "version"
@@ -33,7 +35,7 @@ refusal_words (fault.Line line reason) = codes "refused" ∷ codes "line" ∷ de
 refusal_words (fault.TooLong steps) = codes "refused" ∷ codes "too" ∷ codes "long" ∷ decimal steps ∷ []
 refusal_words fault.NoMemory = codes "no" ∷ codes "memory" ∷ []
 
--- The text of a status. A run that is done has its report instead, and after a write fault nothing more is put.
+-- The text of a status. What is done has its own text instead, and after a write fault nothing more is put.
 abbrev pub exit_text : Exit → List ℕ
 exit_text exit.Done = []
 exit_text (exit.Refused fault) = line_text (refusal_words fault)
@@ -41,3 +43,4 @@ exit_text exit.Usage = codes "usage: fiasco_run run, check, big N, carry M\n"
 exit_text exit.ReadFault = codes "read fault\n"
 exit_text exit.WriteFault = []
 exit_text exit.NoMemory = codes "no memory\n"
+exit_text (exit.Illegal verdict) = verdict_text verdict

@@ -1,5 +1,6 @@
-pub mod Playing
-pub mod Reports
-pub mod Input
+pub mod Calls
 pub mod Exits
+pub mod Scripts
+pub mod Due
 pub mod Served
+pub mod Headline

@@ -1,164 +1,117 @@
 -- What the top call answers, and what it takes and puts.
-use Rattle.std.specs.Prelude.{◌≡◌, ◌≤◌, ◌<◌, ◌⊎◌, ℕ, Bool, true, false, List, [], ◌∷◌, length, codes, Option, Some, IfSome, Err}
-use Rattle.std.specs.Str.{bytes_eq}
-use Rattle.k_ids.specs.declared.threads.Found.{Found}
-use Rattle.k_ids.specs.declared.histories.Entry.{Entry}
-use Rattle.k_ids.specs.declared.histories.ReplyLine.{ReplyLine}
+use Rattle.std.specs.Prelude.{◌≡◌, ◌≤◌, ◌<◌, ◌⊎◌, ℕ, ◌+◌, List, [], length, Option, Some, None, IfSome}
 use Rattle.k_outside.specs.Outside.{Appends, AppendsFront, Rose}
-use Rattle.k_script.specs.declared.fault.Why.{Why}
-use Rattle.k_script.specs.declared.fault.ScriptFault.{ScriptFault}
-use Rattle.k_script.specs.declared.fault.ScriptFault.TheVariants as fault
+use Rattle.k_input.specs.Taken.{IsPartTaken, IsTooMuch, most_bytes}
+use Rattle.k_input.specs.Division.{script_part, history_part, most_input, IsInputLarge, IsInputTooLarge}
 use Rattle.k_script.specs.Script.{Script}
-use Rattle.k_script.specs.Grammar.{IsText}
-use Rattle.k_script.specs.Reading.{read_of}
-use Rattle.k_history.specs.Report.{report_text}
+use Rattle.k_reader.specs.declared.fault.ScriptFault.{ScriptFault}
+use Rattle.k_reader.specs.declared.fault.ScriptFault.TheVariants as fault
+use Rattle.k_history.specs.declared.verdict.Verdict.{Verdict}
+use Rattle.k_history.specs.declared.verdict.Verdict.TheVariants as verdict
+use Rattle.k_history.specs.Verdicts.{IsVerdict}
+use Rattle.fiasco_run.specs.declared.call.Call.{Call}
+use Rattle.fiasco_run.specs.declared.call.Call.TheVariants as call
 use Rattle.fiasco_run.specs.declared.exit.Exit.{Exit}
 use Rattle.fiasco_run.specs.declared.exit.Exit.TheVariants as exit
-use Rattle.fiasco_run.specs.Input.{IsPartTaken, IsTooMuch, most_bytes}
-use Rattle.fiasco_run.specs.Exits.{exit_text}
-use Rattle.fiasco_run.specs.Reports.{IsRun}
+use Rattle.fiasco_run.specs.declared.due.Due.{Due}
+use Rattle.k_reader.specs.Refused.{script_fault}
+use Rattle.fiasco_run.specs.Scripts.{IsScriptOf, run_fault}
+use Rattle.fiasco_run.specs.Due.{IsDue, exit_of, text_of}
 
--- THE WORDS: exactly the one word `run` is served.
-abbrev pub is_served : List (List ℕ) → Bool
-is_served [] = false
-is_served (word ∷ []) = bytes_eq word (codes "run")
-is_served (word ∷ next ∷ words) = false
-
--- The bytes that the source had left, where it tells them, are these.
-abbrev pub IsGiven : Option (List ℕ) → List ℕ → Type 0
-IsGiven given bytes = IfSome given (λ left. left ≡ bytes)
-
--- DONE: the bytes are not too many and a text of a script, and the report of a run of it was put: of a legal, playing,
--- finished history of that script, with the replies of its replay by number, version and serial, and its final statuses.
-pub record IsRunOf (bytes : List ℕ) (history : List Entry) (replies : List ReplyLine) (finals : List Found) : Type 0 where
-  pub script : Script
-  pub spelled : IsText bytes script
-  pub run : IsRun script history replies finals
-
-pub record IsRunOfGiven (given : Option (List ℕ)) (history : List Entry) (replies : List ReplyLine) (finals : List Found) : Type 0 where
-  pub bytes : List ℕ
-  pub is_given : IsGiven given bytes
-  pub small : length bytes ≤ most_bytes
-  pub run : IsRunOf bytes history replies finals
-
-pub record ReportsRun (given held holds : Option (List ℕ)) : Type 0 where
-  pub history : List Entry
-  pub replies : List ReplyLine
-  pub finals : List Found
-  pub run : IsRunOfGiven given history replies finals
-  pub put : Appends held holds (report_text history replies finals)
-
--- REFUSED: there are more bytes than a script may have, or this is their first bad line.
-pub record IsBadScript (given : Option (List ℕ)) (line : ℕ) (reason : Why) : Type 0 where
-  pub bytes : List ℕ
-  pub is_given : IsGiven given bytes
-  pub small : length bytes ≤ most_bytes
-  pub bad : read_of bytes ≡ Err (record { line = line; why = reason })
-
-abbrev pub IsRefusal : Option (List ℕ) → ScriptFault → Type 0
-IsRefusal given fault.TooLarge = IfSome given (λ bytes. most_bytes < length bytes)
-IsRefusal given (fault.Line line reason) = IsBadScript given line reason
-IsRefusal given (fault.TooLong steps) = ⊥
-IsRefusal given fault.NoMemory = ⊥
-
-abbrev pub IfRefused : Exit → (ScriptFault → Type 0) → Type 0
-IfRefused exit.Done P = Unit {0}
-IfRefused (exit.Refused fault) P = P fault
-IfRefused exit.Usage P = Unit {0}
-IfRefused exit.ReadFault P = Unit {0}
-IfRefused exit.WriteFault P = Unit {0}
-IfRefused exit.NoMemory P = Unit {0}
-
--- Bytes that are not too many are not run because of a bad line, or for want of memory.
-abbrev pub IsNotRun : List ℕ → Exit → Type 0
-IsNotRun bytes (exit.Refused (fault.Line line reason)) = read_of bytes ≡ Err (record { line = line; why = reason })
-IsNotRun bytes (exit.Refused fault.TooLarge) = ⊥
-IsNotRun bytes (exit.Refused (fault.TooLong steps)) = ⊥
-IsNotRun bytes (exit.Refused fault.NoMemory) = ⊥
-IsNotRun bytes exit.NoMemory = Unit {0}
-IsNotRun bytes exit.Done = ⊥
-IsNotRun bytes exit.Usage = ⊥
-IsNotRun bytes exit.ReadFault = ⊥
-IsNotRun bytes exit.WriteFault = ⊥
-
--- THE CAUSE of a status that has a text of its own, from the words, the bytes that were given and the source's counts of
--- faults. Want of memory is free, but comes only where the words are served.
-abbrev pub IsCaused : Exit → Bool → Option (List ℕ) → ℕ → ℕ → Type 0
-IsCaused exit.Done served given before now = ⊥
-IsCaused (exit.Refused fault) served given before now = (served ≡ true) × IsRefusal given fault
-IsCaused exit.Usage served given before now = served ≡ false
-IsCaused exit.ReadFault served given before now = (served ≡ true) × Rose before now
-IsCaused exit.WriteFault served given before now = ⊥
-IsCaused exit.NoMemory served given before now = served ≡ true
-
--- HOW MUCH OF THE SOURCE each status takes: all of it, or one byte more than a script may have; nothing where the words are
--- not served; and otherwise a front.
+-- HOW MUCH OF THE SOURCE is taken: nothing where the words ask for no call; all of it where the bytes were read; where they are
+-- too many, up to the first byte that makes it certain, or to the end where none does; and otherwise a front.
 abbrev pub TakesAll : Option (List ℕ) → Option (List ℕ) → Type 0
 TakesAll given left = IfSome given (λ _. left ≡ Some [])
 
-abbrev pub TakesRefused : ScriptFault → Option (List ℕ) → Option (List ℕ) → Type 0
-TakesRefused fault.TooLarge given left = IsTooMuch given left
-TakesRefused (fault.Line line reason) given left = TakesAll given left
-TakesRefused (fault.TooLong steps) given left = TakesAll given left
-TakesRefused fault.NoMemory given left = IsPartTaken given left
+-- as many bytes as a call takes at most
+abbrev pub most_taken : Call → ℕ
+most_taken call.Run = most_bytes + 1
+most_taken call.Check = most_input + 1
 
-abbrev pub TakesFor : Exit → Option (List ℕ) → Option (List ℕ) → Type 0
-TakesFor exit.Done given left = TakesAll given left
-TakesFor (exit.Refused fault) given left = TakesRefused fault given left
-TakesFor exit.Usage given left = left ≡ given
-TakesFor exit.ReadFault given left = IsPartTaken given left
-TakesFor exit.WriteFault given left = IsPartTaken given left
-TakesFor exit.NoMemory given left = IsPartTaken given left
+abbrev pub TakesLarge : Call → Option (List ℕ) → Option (List ℕ) → Type 0
+TakesLarge call.Run given left = IsTooMuch given left
+TakesLarge call.Check given left = IsInputTooLarge given left
 
--- THE TEXT: that of the status was put.
-abbrev pub PutsText : Exit → Option (List ℕ) → Option (List ℕ) → Type 0
-PutsText exit.Done held holds = Unit {0}
-PutsText (exit.Refused fault) held holds = Appends held holds (exit_text (exit.Refused fault))
-PutsText exit.Usage held holds = Appends held holds (exit_text exit.Usage)
-PutsText exit.ReadFault held holds = Appends held holds (exit_text exit.ReadFault)
-PutsText exit.WriteFault held holds = Unit {0}
-PutsText exit.NoMemory held holds = Appends held holds (exit_text exit.NoMemory)
+abbrev pub TakesRefused : Call → ScriptFault → Option (List ℕ) → Option (List ℕ) → Type 0
+TakesRefused c fault.TooLarge given left = TakesLarge c given left
+TakesRefused c (fault.Line line reason) given left = TakesAll given left
+TakesRefused c (fault.TooLong steps) given left = TakesAll given left
+TakesRefused c fault.NoMemory given left = IsPartTaken (most_taken c) given left
 
--- WRITE FAULT: a front was put of the text that was due, which is the report of a run or the text of a status with its cause.
-pub record IsReportDue (given : Option (List ℕ)) (text : List ℕ) : Type 0 where
-  pub history : List Entry
-  pub replies : List ReplyLine
-  pub finals : List Found
-  pub run : IsRunOfGiven given history replies finals
-  pub is_report : text ≡ report_text history replies finals
+abbrev pub TakesStatus : Call → Exit → Option (List ℕ) → Option (List ℕ) → Type 0
+TakesStatus c exit.Done given left = TakesAll given left
+TakesStatus c (exit.Refused f) given left = TakesRefused c f given left
+TakesStatus c exit.Usage given left = left ≡ given
+TakesStatus c exit.ReadFault given left = IsPartTaken (most_taken c) given left
+TakesStatus c exit.WriteFault given left = IsPartTaken (most_taken c) given left
+TakesStatus c exit.NoMemory given left = IsPartTaken (most_taken c) given left
+TakesStatus c (exit.Illegal v) given left = TakesAll given left
 
-pub record IsTextDue (served : Bool) (given : Option (List ℕ)) (before now : ℕ) (text : List ℕ) : Type 0 where
-  pub status : Exit
-  pub cause : IsCaused status served given before now
-  pub is_text : text ≡ exit_text status
+abbrev pub TakesFor : Option Call → Due → Option (List ℕ) → Option (List ℕ) → Type 0
+TakesFor None d given left = left ≡ given
+TakesFor (Some c) d given left = TakesStatus c (exit_of d) given left
 
-pub record PutsFront (served : Bool) (given : Option (List ℕ)) (before now : ℕ) (held holds : Option (List ℕ)) : Type 0 where
-  pub text : List ℕ
-  pub due : IsReportDue given text ⊎ IsTextDue served given before now text
-  pub put : AppendsFront held holds text
+-- WHAT IS PUT: the text that is due, and the status is that of what is due; or a front of that text, and the sink failed.
+abbrev pub IsPutText : Exit → Exit → List ℕ → Option (List ℕ) → Option (List ℕ) → ℕ → ℕ → Type 0
+IsPutText result status text held holds before now =
+    ((result ≡ status) × Appends held holds text)
+    ⊎ ((result ≡ exit.WriteFault) × AppendsFront held holds text × Rose before now)
 
--- COMPLETE: a script within the limits is run to its end, unless there was no memory, or the source or the sink failed.
-abbrev pub IsRunOrFault : Exit → Type 0 → Type 0 → Type 0
-IsRunOrFault exit.Done read write = Unit {0}
-IsRunOrFault (exit.Refused fault) read write = ⊥
-IsRunOrFault exit.Usage read write = ⊥
-IsRunOrFault exit.ReadFault read write = read
-IsRunOrFault exit.WriteFault read write = write
-IsRunOrFault exit.NoMemory read write = Unit {0}
+abbrev pub IsPut : Exit → Due → Option (List ℕ) → Option (List ℕ) → ℕ → ℕ → Type 0
+IsPut result d held holds before now = IsPutText result (exit_of d) (text_of d) held holds before now
 
-abbrev pub IsComplete : Exit → Bool → Option (List ℕ) → Type 0 → Type 0 → Type 0
-IsComplete e served given read write =
-    served ≡ true → IfSome given (λ bytes. (script : Script) → length bytes ≤ most_bytes → IsText bytes script → IsRunOrFault e read write)
+-- THE WHOLE CALL: what is due has its cause, so much of the source was taken, and this was put.
+pub record IsServed (asked : Option Call) (result : Exit) (given left : Option (List ℕ)) (read_before read_now : ℕ) (held holds : Option (List ℕ)) (put_before put_now : ℕ) : Type 0 where
+  pub what : Due
+  pub cause : IsDue asked given read_before read_now what
+  pub takes : TakesFor asked what given left
+  pub put : IsPut result what held holds put_before put_now
 
--- TOO LARGE: more bytes than a script may have are refused as too large, with the same exceptions.
-abbrev pub IsTooLargeOrFault : Exit → Type 0 → Type 0 → Type 0
-IsTooLargeOrFault exit.Done read write = ⊥
-IsTooLargeOrFault (exit.Refused reason) read write = reason ≡ fault.TooLarge
-IsTooLargeOrFault exit.Usage read write = ⊥
-IsTooLargeOrFault exit.ReadFault read write = read
-IsTooLargeOrFault exit.WriteFault read write = write
-IsTooLargeOrFault exit.NoMemory read write = Unit {0}
+-- THE STATUS THAT BYTES CALL FOR
+abbrev pub run_status : Option ScriptFault → Exit
+run_status None = exit.Done
+run_status (Some f) = exit.Refused f
 
-abbrev pub RefusesLarge : Exit → Bool → Option (List ℕ) → Type 0 → Type 0 → Type 0
-RefusesLarge e served given read write =
-    served ≡ true → IfSome given (λ bytes. most_bytes < length bytes → IsTooLargeOrFault e read write)
+abbrev pub IsRunExit : List ℕ → Exit → Type 0
+IsRunExit bytes e = ((most_bytes < length bytes) × (e ≡ exit.Refused fault.TooLarge)) ⊎ ((length bytes ≤ most_bytes) × (e ≡ run_status (run_fault bytes)))
+
+abbrev pub verdict_status : Verdict → Exit
+verdict_status (verdict.Legal events) = exit.Done
+verdict_status (verdict.Unreadable line) = exit.Illegal (verdict.Unreadable line)
+verdict_status (verdict.Illegal index found serial) = exit.Illegal (verdict.Illegal index found serial)
+verdict_status (verdict.Strange index) = exit.Illegal (verdict.Strange index)
+verdict_status (verdict.Differs index outcome) = exit.Illegal (verdict.Differs index outcome)
+verdict_status (verdict.Unfinished who) = exit.Illegal (verdict.Unfinished who)
+
+pub record IsVerdictExit (bytes : List ℕ) (e : Exit) : Type 0 where
+  pub script : Script
+  pub spelled : IsScriptOf (script_part bytes) script
+  pub verdict : Verdict
+  pub judged : IsVerdict script (history_part bytes) verdict
+  pub status : e ≡ verdict_status verdict
+
+abbrev pub IsPartExit : Option ScriptFault → List ℕ → Exit → Type 0
+IsPartExit None bytes e = IsVerdictExit bytes e
+IsPartExit (Some f) bytes e = e ≡ exit.Refused f
+
+abbrev pub IsCheckExit : List ℕ → Exit → Type 0
+IsCheckExit bytes e = (IsInputLarge bytes × (e ≡ exit.Refused fault.TooLarge)) ⊎ ((¬ IsInputLarge bytes) × IsPartExit (script_fault (script_part bytes)) bytes e)
+
+-- the one status that these bytes call for
+abbrev pub IsExit : Call → List ℕ → Exit → Type 0
+IsExit call.Run bytes e = IsRunExit bytes e
+IsExit call.Check bytes e = IsCheckExit bytes e
+
+-- EXACTLY WHERE: the status is the one that the bytes call for, unless there was no memory, or the source or the sink failed.
+abbrev pub IsOrFault : Exit → (Exit → Type 0) → Type 0 → Type 0 → Type 0
+IsOrFault exit.Done P read write = P exit.Done
+IsOrFault (exit.Refused f) P read write = P (exit.Refused f)
+IsOrFault exit.Usage P read write = ⊥
+IsOrFault exit.ReadFault P read write = read
+IsOrFault exit.WriteFault P read write = write
+IsOrFault exit.NoMemory P read write = Unit {0}
+IsOrFault (exit.Illegal v) P read write = P (exit.Illegal v)
+
+abbrev pub IsExact : Option Call → Exit → Option (List ℕ) → Type 0 → Type 0 → Type 0
+IsExact None e given read write = (e ≡ exit.Usage) ⊎ ((e ≡ exit.WriteFault) × write)
+IsExact (Some c) e given read write = IfSome given (λ bytes. IsOrFault e (IsExit c bytes) read write)

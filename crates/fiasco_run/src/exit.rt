@@ -4,7 +4,8 @@ ghost use Rattle.k_text.specs.Texts.{line_text};
 ghost use Rattle.fiasco_run.specs.Exits.{exit_number, exit_text, refusal_words, why_word};
 
 use itoa::Buffer;
-use k_script::{ScriptFault, Why};
+use k_history::Verdict;
+use k_reader::{ScriptFault, Why};
 use k_text::Line;
 
 /// The status of a call.
@@ -21,10 +22,12 @@ pub enum Exit {
     /// The sink failed; a front of the text that was due was put.
     WriteFault,
     NoMemory,
+    /// The history is not a legal, playing, finished one of the script. The verdict is never `Legal`.
+    Illegal { verdict: Verdict },
 }
 
 impl Exit {
-    /// The exit status of the program: 0 to 5.
+    /// The exit status of the program: 0 to 6.
     pub fn number(&self) -> u8
         ensures { result ≡ exit_number self.now }
     {
@@ -35,6 +38,7 @@ impl Exit {
             Exit::ReadFault => 3,
             Exit::WriteFault => 4,
             Exit::NoMemory => 5,
+            Exit::Illegal { .. } => 6,
         }
     }
 
@@ -47,6 +51,7 @@ impl Exit {
             Exit::Usage => line_of(b"usage: fiasco_run run, check, big N, carry M\n"),
             Exit::ReadFault => line_of(b"read fault\n"),
             Exit::NoMemory => line_of(b"no memory\n"),
+            Exit::Illegal { verdict } => verdict.line(),
             Exit::Done | Exit::WriteFault => Line::new(),
         }
     }

@@ -1,24 +1,28 @@
-//! `fiasco_run`: reads a script of thread programs and runs it on the kernel core.
+//! `fiasco_run`: runs a script of thread programs, or judges a history of one.
 //!
-//! The program is one call, [`top`], between the outside and the rest of the house: it looks at the words, reads the source
-//! to its end, reads the script, plays it, and puts the report into the sink. Its contract is what the whole project
-//! promises: the report is that of a legal, playing, finished history of the script that the source's bytes spell, and every
-//! other status has its cause. `main` gives it the words of the command line, standard input and standard output, and ends
-//! with the status's number.
+//! The program is one call, [`top`], between the outside and the rest of the house. It looks at the words and reads the source.
+//! For `run` the source has a script: `top` plays it, and puts the report into the sink. For `check` it has a script, a line
+//! that is `--`, and the lines of a history: `top` judges the history by the script, and puts the verdict. Its contract is what
+//! the whole project promises: the report is that of a legal, playing, finished history of the script that the source's bytes
+//! spell; `legal` is said exactly of such a history; and every other status has its cause. `main` gives it the words of the
+//! command line, standard input and standard output, and ends with the status's number.
 //!
-//! Today each call of a thread is made at once, on the machine of the sequential specification, by the thread of the lowest
-//! number that can go on.
+//! A run makes each call of a thread at once, on the machine of the sequential specification, by the thread of the lowest
+//! number that can go on. A check makes the events of its history on the same machine, in the history's order.
 #![tactic(auto)]
 
+mod call;
+mod check;
+mod due;
 mod exit;
-mod finish;
-mod input;
-mod play;
+mod laws;
 mod run;
 mod serve;
 
+pub use call::Call;
 pub use exit::Exit;
 use k_outside::{StdSink, StdSource};
+pub use laws::bytes_call_for_one_status;
 pub use serve::top;
 use std::process::ExitCode;
 use std::rt::Env;

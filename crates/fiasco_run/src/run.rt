@@ -1,66 +1,58 @@
-// A run of a script, from the words and the source to its history, replies and final statuses.
-ghost use Rattle.std.specs.Prelude.{◌≡◌, ◌≤◌, true, length, map, string_bytes, IfErr, IfOk, IfSome};
-ghost use Rattle.k_script.specs.Grammar.{IsScript};
-ghost use Rattle.fiasco_run.specs.Input.{exit_of, IsPartTaken};
-ghost use Rattle.fiasco_run.specs.Reports.{IsRun};
-ghost use Rattle.fiasco_run.specs.Served.{is_served, IsCaused, IsNotRun, IsRunOf, IsRunOfGiven, TakesAll, TakesFor};
+// `run`: from a source to the run of the script that its bytes spell.
+ghost use Rattle.std.specs.Prelude.{◌≡◌, ◌≤◌, length, None, IfErr, IfOk};
+ghost use Rattle.k_input.specs.Taken.{IsPartTaken};
+ghost use Rattle.k_reader.specs.Refused.{script_fault};
+ghost use Rattle.fiasco_run.specs.Scripts.{IsRefusedBy, IsScriptOf, input_exit, run_fault};
+ghost use Rattle.fiasco_run.specs.Due.{IsRunOf, IsRunOfBytes, IsRunStatus};
+ghost use Rattle.fiasco_run.specs.Served.{TakesAll, TakesStatus};
+ghost use Rattle.fiasco_run.specs.declared.call.Call.TheVariants as call;
 
 use crate::exit::Exit;
-use crate::finish::{finals, sorted_replies};
-use crate::input::{InputFault, read_all};
-use crate::play::play;
-use k_ids::{Entry, Found, NoMemory, ReplyLine};
+use k_input::{InputFault, read_all};
 use k_outside::Source;
-use k_script::{Script, ScriptFault, read};
+use k_play::{RunEnd, play_script};
+use k_reader::{ScriptFault, Why, later_line, read};
+use k_script::Script;
 use std::alloc::Global;
 
-/// What a run leaves: its history, the replies by number, version and serial, and what each number shows at the end.
-#[derive(Drop)]
-pub struct RunEnd {
-    pub history: Vec<Entry>,
-    pub replies: Vec<ReplyLine>,
-    pub finals: Vec<Found>,
-}
-
-/// Runs a script to its end.
-fn run(alloc: Global, script: &Script) -> Result<RunEnd, NoMemory>
-    requires { IsScript script.now }
-    ensures { IfOk result (λ end. IsRun script.now end.history.items end.replies.items end.finals.items) }
+/// The script that these bytes spell, within the limits.
+pub(crate) fn script_in(alloc: Global, bytes: &[u8]) -> Result<Script, Exit>
+    requires { length bytes.now ≤ 1048576 }
+    ensures script { IfOk result (IsScriptOf bytes.now) }
+    ensures accepted { IfOk result (λ _. script_fault bytes.now ≡ None) }
+    ensures refused { IfErr result (IsRefusedBy (script_fault bytes.now)) }
 {
-    let played = play(alloc, script)?;
-    let replies = sorted_replies(alloc, &played.machine)?;
-    let finals = finals(alloc, &played.machine)?;
-    Ok(RunEnd {
-        history: played.history,
-        replies,
-        finals,
-    })
+    match read(alloc, bytes) {
+        Ok(script) => Ok(script),
+        Err(ScriptFault::NoMemory) => Err(Exit::NoMemory),
+        Err(fault) => Err(Exit::Refused { fault }),
+    }
 }
 
-/// Runs the script that these bytes spell.
+/// Runs the script that these bytes spell, unless it has a line that can't be run yet.
 fn run_bytes(alloc: Global, bytes: &[u8]) -> Result<RunEnd, Exit>
     requires { length bytes.now ≤ 1048576 }
-    ensures run { IfOk result (λ end. IsRunOf bytes.now end.history.items end.replies.items end.finals.items) }
-    ensures status { IfErr result (IsNotRun bytes.now) }
+    ensures run { IfOk result (λ end. IsRunOfBytes bytes.now end.history.items end.replies.items end.finals.items) }
+    ensures refused { IfErr result (IsRefusedBy (run_fault bytes.now)) }
 {
-    let script = match read(alloc, bytes) {
-        Ok(script) => script,
-        Err(ScriptFault::NoMemory) => return Err(Exit::NoMemory),
-        Err(fault) => return Err(Exit::Refused { fault }),
-    };
-    match run(alloc, &script) {
-        Ok(end) => Ok(end),
-        Err(NoMemory) => Err(Exit::NoMemory),
+    let script = script_in(alloc, bytes)?;
+    match later_line(alloc, bytes) {
+        Ok(None) => play_script(alloc, &script).map_err(|_| Exit::NoMemory),
+        Ok(Some(line)) => {
+            let why = Why::Later;
+            let fault = ScriptFault::Line { line, why };
+            Err(Exit::Refused { fault })
+        }
+        Err(_) => Err(Exit::NoMemory),
     }
 }
 
 /// Reads the source and runs the script that its bytes spell.
-fn run_source<S: Source>(alloc: Global, source: &mut S) -> Result<RunEnd, Exit>
-    ensures run { IfOk result (λ end. IsRunOfGiven (S.left source.old) end.history.items end.replies.items end.finals.items) }
-    ensures taken { IfOk result (λ _. TakesAll (S.left source.old) (S.left source.new)) }
-    ensures cause { IfErr result (λ exit. IsCaused exit true (S.left source.old) (S.faults source.old) (S.faults source.new)) }
-    ensures takes { IfErr result (λ exit. TakesFor exit (S.left source.old) (S.left source.new)) }
-    ensures part { IsPartTaken (S.left source.old) (S.left source.new) }
+pub(crate) fn run_source<S: Source>(alloc: Global, source: &mut S) -> Result<RunEnd, Exit>
+    ensures run { IfOk result (λ end. IsRunOf (S.left source.old) end.history.items end.replies.items end.finals.items) }
+    ensures status { IfErr result (IsRunStatus (S.left source.old) (S.faults source.old) (S.faults source.new)) }
+    ensures all { IfOk result (λ _. TakesAll (S.left source.old) (S.left source.new)) }
+    ensures takes { IfErr result (λ exit. TakesStatus call.Run exit (S.left source.old) (S.left source.new)) }
     ensures later { S.faults source.old ≤ S.faults source.new }
 {
     match read_all(alloc, source) {
@@ -69,8 +61,9 @@ fn run_source<S: Source>(alloc: Global, source: &mut S) -> Result<RunEnd, Exit>
     }
 }
 
-fn exit_of(fault: InputFault) -> Exit
-    ensures { result ≡ exit_of fault }
+/// The status of a source that was not read to its end.
+pub(crate) fn exit_of(fault: InputFault) -> Exit
+    ensures { result ≡ input_exit fault }
 {
     match fault {
         InputFault::Source => Exit::ReadFault,
@@ -78,32 +71,5 @@ fn exit_of(fault: InputFault) -> Exit
             fault: ScriptFault::TooLarge,
         },
         InputFault::NoMemory => Exit::NoMemory,
-    }
-}
-
-/// Whether exactly the one word `run` is given.
-fn is_served(words: &[String]) -> bool
-    ensures { result ≡ is_served (map string_bytes words.now) }
-{
-    match words {
-        [word] => word.as_bytes() == b"run".as_slice(),
-        _ => false,
-    }
-}
-
-/// Serves the words: runs the script that the source has, unless they are not served.
-pub fn answer<S: Source>(alloc: Global, words: &[String], source: &mut S) -> Result<RunEnd, Exit>
-    ensures run { IfOk result (λ end. IsRunOfGiven (S.left source.old) end.history.items end.replies.items end.finals.items) }
-    ensures served { IfOk result (λ _. is_served (map string_bytes words.now) ≡ true) }
-    ensures taken { IfOk result (λ _. TakesAll (S.left source.old) (S.left source.new)) }
-    ensures cause { IfErr result (λ exit. IsCaused exit (is_served (map string_bytes words.now)) (S.left source.old) (S.faults source.old) (S.faults source.new)) }
-    ensures takes { IfErr result (λ exit. TakesFor exit (S.left source.old) (S.left source.new)) }
-    ensures part { IsPartTaken (S.left source.old) (S.left source.new) }
-    ensures later { S.faults source.old ≤ S.faults source.new }
-{
-    if is_served(words) {
-        run_source(alloc, source)
-    } else {
-        Err(Exit::Usage)
     }
 }

@@ -1,22 +1,29 @@
 // The top call.
-ghost use Rattle.std.specs.Prelude.{◌≡◌, ◌≢◌, ◌≤◌, ◌⊎◌, false, true, map, string_bytes};
+ghost use Rattle.std.specs.Prelude.{◌≡◌, ◌≢◌, ◌≤◌, ◌⊎◌, map, string_bytes, Some};
 ghost use Rattle.k_outside.specs.Outside.{Appends, AppendsFront, Rose};
 ghost use Rattle.k_history.specs.Report.{report_text};
+ghost use Rattle.k_history.specs.Verdicts.{verdict_text};
+ghost use Rattle.k_history.specs.declared.verdict.Verdict.TheVariants as verdict;
+ghost use Rattle.fiasco_run.specs.Calls.{call_of};
 ghost use Rattle.fiasco_run.specs.Exits.{exit_text};
-ghost use Rattle.fiasco_run.specs.Served.{is_served, IfRefused, IsCaused, IsComplete, IsRefusal, PutsFront, PutsText, RefusesLarge, ReportsRun, TakesFor};
+ghost use Rattle.fiasco_run.specs.Due.{IsDue};
+ghost use Rattle.fiasco_run.specs.Served.{IsExact, IsPut, IsPutText, IsServed, TakesFor};
+ghost use Rattle.fiasco_run.specs.Headline.{ReportsRun, ReportsLegal};
+ghost use Rattle.fiasco_run.specs.declared.call.Call.TheVariants as call;
 
+use crate::call::{Call, call_of};
+use crate::check::check_source;
+use crate::due::Due;
 use crate::exit::Exit;
-use crate::run::{RunEnd, answer};
-use k_history::{RunParts, report};
+use crate::run::run_source;
+use k_history::{RunParts, Verdict, report};
 use k_outside::{Sink, Source, put_all};
+use k_play::RunEnd;
 use std::alloc::Global;
 
 /// Puts the report of a run.
 fn put_report<K: Sink>(end: &RunEnd, sink: &mut K) -> Exit
-    ensures status { (result ≡ Exit.Done) ⊎ (result ≡ Exit.WriteFault) }
-    ensures done { result ≡ Exit.Done → Appends (K.held sink.old) (K.held sink.new) (report_text end.now.history.items end.now.replies.items end.now.finals.items) }
-    ensures front { result ≡ Exit.WriteFault → AppendsFront (K.held sink.old) (K.held sink.new) (report_text end.now.history.items end.now.replies.items end.now.finals.items) }
-    ensures cause { result ≡ Exit.WriteFault → Rose (K.faults sink.old) (K.faults sink.new) }
+    ensures put { IsPutText result Exit.Done (report_text end.now.history.items end.now.replies.items end.now.finals.items) (K.held sink.old) (K.held sink.new) (K.faults sink.old) (K.faults sink.new) }
     ensures later { K.faults sink.old ≤ K.faults sink.new }
 {
     let parts = RunParts {
@@ -30,53 +37,77 @@ fn put_report<K: Sink>(end: &RunEnd, sink: &mut K) -> Exit
     }
 }
 
-/// Puts the text of a status.
-fn put_status<K: Sink>(exit: Exit, sink: &mut K) -> Exit
-    requires { exit ≢ Exit.WriteFault }
-    ensures status { (result ≡ exit) ⊎ (result ≡ Exit.WriteFault) }
-    ensures text { result ≡ exit → Appends (K.held sink.old) (K.held sink.new) (exit_text exit) }
-    ensures front { result ≡ Exit.WriteFault → AppendsFront (K.held sink.old) (K.held sink.new) (exit_text exit) }
-    ensures cause { result ≡ Exit.WriteFault → Rose (K.faults sink.old) (K.faults sink.new) }
+/// Puts the line of a status.
+fn put_line<K: Sink>(exit: Exit, line: &[u8], sink: &mut K) -> Exit
+    ensures put { IsPutText result exit line.now (K.held sink.old) (K.held sink.new) (K.faults sink.old) (K.faults sink.new) }
     ensures later { K.faults sink.old ≤ K.faults sink.new }
 {
-    let line = exit.line();
-    match put_all(sink, line.as_bytes()) {
+    match put_all(sink, line) {
         Ok(()) => exit,
         Err(_) => Exit::WriteFault,
     }
 }
 
-/// Serves the word `run`: reads a script from the source to its end, runs it, and puts the report of the run into the sink.
-/// Every other status puts its text.
+/// Puts what is due, and answers its status.
+fn put_due<K: Sink>(due: &Due, sink: &mut K) -> Exit
+    ensures put { IsPut result due.now (K.held sink.old) (K.held sink.new) (K.faults sink.old) (K.faults sink.new) }
+    ensures later { K.faults sink.old ≤ K.faults sink.new }
+{
+    match due {
+        Due::Report(end) => put_report(end, sink),
+        Due::Legal(events) => {
+            let verdict = Verdict::Legal { events: *events };
+            put_line(Exit::Done, verdict.line().as_bytes(), sink)
+        }
+        Due::Status(exit) => put_line(*exit, exit.line().as_bytes(), sink),
+    }
+}
+
+/// What is due by the words and the source.
+fn due<S: Source>(alloc: Global, words: &[String], source: &mut S) -> Due
+    ensures cause { IsDue (call_of (map string_bytes words.now)) (S.left source.old) (S.faults source.old) (S.faults source.new) result }
+    ensures takes { TakesFor (call_of (map string_bytes words.now)) result (S.left source.old) (S.left source.new) }
+    ensures later { S.faults source.old ≤ S.faults source.new }
+{
+    match call_of(words) {
+        None => Due::Status(Exit::Usage),
+        Some(Call::Run) => match run_source(alloc, source) {
+            Ok(end) => Due::Report(end),
+            Err(exit) => Due::Status(exit),
+        },
+        Some(Call::Check) => match check_source(alloc, source) {
+            Ok(events) => Due::Legal(events),
+            Err(exit) => Due::Status(exit),
+        },
+    }
+}
+
+/// Serves the words over a source and a sink. `run` reads a script from the source to its end, runs it, and puts the report
+/// of the run into the sink. `check` reads a script, a line that is `--`, and the lines of a history, and puts the verdict on
+/// the history. Every status other than `Done` has a text of its own, but a fault of the sink, after which a front was put of
+/// the text that was due. Where there are too many bytes, the source is read up to the first byte that makes it certain, or to
+/// its end where none does.
 ///
 /// The causes are tried in this order: words that are not served, a fault of the source, too many bytes, the first bad line,
-/// want of memory, a fault of the sink. Want of memory while reading stands where it comes.
+/// a script that is too long, for `run` a line that can't be run yet, want of memory, a fault of the sink. Want of memory
+/// while reading stands where it comes.
 pub fn top<S: Source, K: Sink>(
     alloc: Global,
     words: &[String],
     source: &mut S,
     sink: &mut K,
 ) -> Exit
-    // The report of a legal, playing, finished history of the script that the source's bytes spell.
-    ensures done { result ≡ Exit.Done → ReportsRun (S.left source.old) (K.held sink.old) (K.held sink.new) }
+    // What `run` and `check` say when they are done.
+    ensures run { call_of (map string_bytes words.now) ≡ Some call.Run → result ≡ Exit.Done → ReportsRun (S.left source.old) (K.held sink.old) (K.held sink.new) }
+    ensures check { call_of (map string_bytes words.now) ≡ Some call.Check → result ≡ Exit.Done → ReportsLegal (S.left source.old) (K.held sink.old) (K.held sink.new) }
 
-    // The cause of each other status.
-    ensures usage { result ≡ Exit.Usage → is_served (map string_bytes words.now) ≡ false }
-    ensures unserved { is_served (map string_bytes words.now) ≡ false → (result ≡ Exit.Usage) ⊎ (result ≡ Exit.WriteFault) }
-    ensures refused { IfRefused result (IsRefusal (S.left source.old)) }
-    ensures read_fault { result ≡ Exit.ReadFault → Rose (S.faults source.old) (S.faults source.new) }
-    ensures write_fault { result ≡ Exit.WriteFault → Rose (K.faults sink.old) (K.faults sink.new) }
-    ensures too_large { RefusesLarge result (is_served (map string_bytes words.now)) (S.left source.old) (Rose (S.faults source.old) (S.faults source.new)) (Rose (K.faults sink.old) (K.faults sink.new)) }
-    ensures complete { IsComplete result (is_served (map string_bytes words.now)) (S.left source.old) (Rose (S.faults source.old) (S.faults source.new)) (Rose (K.faults sink.old) (K.faults sink.new)) }
+    // The whole call: every status with its cause, what was taken, and what was put.
+    ensures served { IsServed (call_of (map string_bytes words.now)) result (S.left source.old) (S.left source.new) (S.faults source.old) (S.faults source.new) (K.held sink.old) (K.held sink.new) (K.faults sink.old) (K.faults sink.new) }
 
-    // What is put and what is taken.
-    ensures text { PutsText result (K.held sink.old) (K.held sink.new) }
-    ensures front { result ≡ Exit.WriteFault → PutsFront (is_served (map string_bytes words.now)) (S.left source.old) (S.faults source.old) (S.faults source.new) (K.held sink.old) (K.held sink.new) }
-    ensures takes { TakesFor result (S.left source.old) (S.left source.new) }
+    // Exactly where: the status is the one that the bytes call for, unless there was no memory or the outside failed.
+    ensures exact { IsExact (call_of (map string_bytes words.now)) result (S.left source.old) (Rose (S.faults source.old) (S.faults source.new)) (Rose (K.faults sink.old) (K.faults sink.new)) }
     ensures later { (S.faults source.old ≤ S.faults source.new) × (K.faults sink.old ≤ K.faults sink.new) }
 {
-    match answer(alloc, words, source) {
-        Ok(end) => put_report(&end, sink),
-        Err(exit) => put_status(exit, sink),
-    }
+    let due = due(alloc, words, source);
+    put_due(&due, sink)
 }

@@ -1,9 +1,11 @@
-// Whole runs, byte by byte, and each refusal.
+// Whole calls, byte by byte.
+mod checks;
 mod pieces;
+mod scripts;
 
 use crate::{Exit, top};
 use k_outside::{MemSink, MemSource};
-use k_script::{ScriptFault, Why};
+use k_reader::{ScriptFault, Why};
 use pieces::Pieces;
 use std::alloc::Global;
 use std::process::Abort;
@@ -35,18 +37,37 @@ fn source(alloc: Global, bytes: &[u8], fails: &[u32]) -> Result<MemSource, Fail>
     ))
 }
 
-/// How `run` ends on these bytes, and what it put.
-fn run(alloc: Global, bytes: &[u8]) -> Result<(Exit, MemSink), Fail> {
+/// How a call ends on these bytes, and what it put.
+fn call(alloc: Global, word: &str, bytes: &[u8]) -> Result<(Exit, MemSink), Fail> {
     let mut source = source(alloc, bytes, &[])?;
     let mut sink = sink(alloc, &[])?;
-    let exit = top(alloc, &words(alloc, &["run"])?, &mut source, &mut sink);
+    let exit = top(alloc, &words(alloc, &[word])?, &mut source, &mut sink);
     Ok((exit, sink))
 }
 
-fn puts(rt: &(impl Abort + AllocGlobal), script: &str, exit: Exit, text: &str) -> Result<(), Fail> {
-    let (status, sink) = run(rt.alloc(), script.as_bytes())?;
+fn puts(
+    rt: &(impl Abort + AllocGlobal),
+    word: &str,
+    input: &str,
+    exit: Exit,
+    text: &str,
+) -> Result<(), Fail> {
+    let (status, sink) = call(rt.alloc(), word, input.as_bytes())?;
     assert_eq!(rt; status, exit);
     assert_eq!(rt; sink.bytes(), text.as_bytes());
+    Ok(())
+}
+
+/// The run of a script is done, and its report begins with these lines of a history.
+fn history(rt: &(impl Abort + AllocGlobal), script: &str, lines: &str) -> Result<(), Fail> {
+    let (status, sink) = call(rt.alloc(), "run", script.as_bytes())?;
+    assert_eq!(rt; status, Exit::Done);
+    let rest = sink
+        .bytes()
+        .strip_prefix(b"history\n".as_slice())
+        .unwrap_or(&[]);
+    let rest = rest.strip_prefix(lines.as_bytes()).unwrap_or(&[]);
+    assert!(rt; rest.starts_with(b"replies\n"));
     Ok(())
 }
 
@@ -58,18 +79,19 @@ fn refuses(
     text: &str,
 ) -> Result<(), Fail> {
     let fault = ScriptFault::Line { line, why };
-    puts(rt, script, Exit::Refused { fault }, text)
+    puts(rt, "run", script, Exit::Refused { fault }, text)
 }
 
 #[test]
 fn a_message_is_taken(rt: HostRuntime) -> Result<(), Fail> {
-    puts(&rt, FIRST, Exit::Done, FIRST_REPORT)
+    puts(&rt, "run", FIRST, Exit::Done, FIRST_REPORT)
 }
 
 #[test]
 fn an_absent_partner_is_shown(rt: HostRuntime) -> Result<(), Fail> {
     puts(
         &rt,
+        "run",
         "kernel 1\ntable 2\nprogram a\nsend #1 1 1\nend\nthread 5 a",
         Exit::Done,
         "history\n0.1 1 send 1.1 1 1 -> absent 1.0 dead\n0.1 2 end\nreplies\nreply 0.1 1 absent 1.0 dead\nend 0.1 ended\nend 1.0 dead\n",
@@ -80,6 +102,7 @@ fn an_absent_partner_is_shown(rt: HostRuntime) -> Result<(), Fail> {
 fn who_waits_for_an_absent_thread_is_freed(rt: HostRuntime) -> Result<(), Fail> {
     puts(
         &rt,
+        "run",
         "kernel 1\ntable 2\nprogram a\nreceive #1\nend\nthread 5 a",
         Exit::Done,
         "history\n0.1 1 receive 1.1 -> waits\n0.1 1 gone\n0.1 2 end\nreplies\nreply 0.1 1 gone\nend 0.1 ended\nend 1.0 dead\n",
@@ -90,6 +113,7 @@ fn who_waits_for_an_absent_thread_is_freed(rt: HostRuntime) -> Result<(), Fail> 
 fn a_send_to_itself_is_its_own(rt: HostRuntime) -> Result<(), Fail> {
     puts(
         &rt,
+        "run",
         "kernel 1\ntable 1\nprogram a\nsend #0 1 1\nend\nthread 5 a",
         Exit::Done,
         "history\n0.1 1 send 0.1 1 1 -> own\n0.1 2 end\nreplies\nreply 0.1 1 own\nend 0.1 ended\n",
@@ -97,36 +121,18 @@ fn a_send_to_itself_is_its_own(rt: HostRuntime) -> Result<(), Fail> {
 }
 
 #[test]
-fn bad_scripts_are_refused(rt: HostRuntime) -> Result<(), Fail> {
-    refuses(
-        &rt,
-        "kernel 1\ntable 1\nprogram a\nwait",
-        4,
-        Why::Later,
-        "refused line 4 later\n",
-    )?;
-    refuses(&rt, "kernel 3", 1, Why::Word, "refused line 1 word\n")?;
-    refuses(&rt, "", 1, Why::Word, "refused line 1 word\n")?;
-    refuses(
-        &rt,
-        "kernel 1\ntable 2\nprogram a\nsend #1 1234567890123456789012345678901234567890 0",
-        4,
-        Why::Word,
-        "refused line 4 word\n",
-    )?;
-    refuses(
-        &rt,
-        "kernel 1\ntable 1\nprogram a\nend\n",
-        5,
-        Why::Word,
-        "refused line 5 word\n",
-    )
-}
-
-#[test]
 fn other_words_are_not_served(rt: HostRuntime) -> Result<(), Fail> {
     let alloc = rt.alloc();
-    let forms: [&[&str]; 5] = [&[], &["run", "x"], &["walk"], &["check"], &["run", "run"]];
+    let forms: [&[&str]; 8] = [
+        &[],
+        &["run", "x"],
+        &["walk"],
+        &["--help"],
+        &["--version"],
+        &["check", "check"],
+        &["big", "1"],
+        &["carry", "1"],
+    ];
     for form in forms {
         let mut source = source(alloc, FIRST.as_bytes(), &[])?;
         let mut sink = sink(alloc, &[])?;
@@ -154,9 +160,9 @@ fn first_lines(text: &[u8], count: u32) -> &[u8] {
     text
 }
 
-// The report has ten lines, and each is one put.
+// The report has ten lines, and each is one put. A verdict is one put.
 #[test]
-fn a_put_that_fails_ends_the_report_there(rt: HostRuntime) -> Result<(), Fail> {
+fn a_put_that_fails_ends_the_text_there(rt: HostRuntime) -> Result<(), Fail> {
     let alloc = rt.alloc();
     for call in 0..10u32 {
         let mut source = source(alloc, FIRST.as_bytes(), &[])?;
@@ -166,33 +172,74 @@ fn a_put_that_fails_ends_the_report_there(rt: HostRuntime) -> Result<(), Fail> {
         assert_eq!(&rt; sink.bytes(), first_lines(FIRST_REPORT.as_bytes(), call));
         assert_eq!(&rt; sink.faults(), 1);
     }
+    let mut source = source(alloc, CHECKED.as_bytes(), &[])?;
+    let mut sink = sink(alloc, &[0])?;
+    let exit = top(alloc, &words(alloc, &["check"])?, &mut source, &mut sink);
+    assert_eq!(&rt; exit, Exit::WriteFault);
+    assert!(&rt; sink.bytes().is_empty() && sink.faults() == 1);
     Ok(())
 }
 
-// A run takes twice: all bytes, and then none.
+/// The smallest script and its history.
+const CHECKED: &str = "kernel 1\ntable 1\nprogram a\nend\nthread 5 a\n--\n0.1 1 end\n";
+
+/// What each call says of an input of its own.
+const CALLS: [(&str, &str, &str); 2] = [
+    ("run", FIRST, FIRST_REPORT),
+    ("check", CHECKED, "legal 1\n"),
+];
+
+/// The call whose take of this number fails.
+fn is_read_fault(
+    rt: &(impl Abort + AllocGlobal),
+    word: &str,
+    input: &str,
+    call: u32,
+) -> Result<(), Fail> {
+    let alloc = rt.alloc();
+    let mut source = source(alloc, input.as_bytes(), &[call])?;
+    let mut sink = sink(alloc, &[])?;
+    let exit = top(alloc, &words(alloc, &[word])?, &mut source, &mut sink);
+    assert_eq!(rt; exit, Exit::ReadFault);
+    assert_eq!(rt; sink.bytes(), b"read fault\n".as_slice());
+    assert_eq!(rt; source.faults(), 1);
+    Ok(())
+}
+
+// A call takes twice: all bytes, and then none.
 #[test]
 fn a_take_that_fails_is_a_read_fault(rt: HostRuntime) -> Result<(), Fail> {
-    let alloc = rt.alloc();
-    for call in 0..2u32 {
-        let mut source = source(alloc, FIRST.as_bytes(), &[call])?;
-        let mut sink = sink(alloc, &[])?;
-        let exit = top(alloc, &words(alloc, &["run"])?, &mut source, &mut sink);
-        assert_eq!(&rt; exit, Exit::ReadFault);
-        assert_eq!(&rt; sink.bytes(), b"read fault\n".as_slice());
-        assert_eq!(&rt; source.faults(), 1);
+    for (word, input, _) in CALLS {
+        is_read_fault(&rt, word, input, 0)?;
+        is_read_fault(&rt, word, input, 1)?;
     }
+    Ok(())
+}
+
+/// The call whose source gives at most so many bytes a take.
+fn is_done_in_pieces(
+    rt: &(impl Abort + AllocGlobal),
+    most: usize,
+    word: &str,
+    input: &str,
+    text: &str,
+) -> Result<(), Fail> {
+    let alloc = rt.alloc();
+    let mut source = Pieces::of(source(alloc, input.as_bytes(), &[])?, most.max(1));
+    let mut sink = sink(alloc, &[])?;
+    let exit = top(alloc, &words(alloc, &[word])?, &mut source, &mut sink);
+    assert_eq!(rt; exit, Exit::Done);
+    assert_eq!(rt; sink.bytes(), text.as_bytes());
     Ok(())
 }
 
 #[test]
 fn a_source_may_give_its_bytes_in_pieces(rt: HostRuntime) -> Result<(), Fail> {
-    let alloc = rt.alloc();
-    for most in [1usize, 2, 7, 4096] {
-        let mut source = Pieces::of(source(alloc, FIRST.as_bytes(), &[])?, most.max(1));
-        let mut sink = sink(alloc, &[])?;
-        let exit = top(alloc, &words(alloc, &["run"])?, &mut source, &mut sink);
-        assert_eq!(&rt; exit, Exit::Done);
-        assert_eq!(&rt; sink.bytes(), FIRST_REPORT.as_bytes());
+    for (word, input, text) in CALLS {
+        is_done_in_pieces(&rt, 1, word, input, text)?;
+        is_done_in_pieces(&rt, 2, word, input, text)?;
+        is_done_in_pieces(&rt, 7, word, input, text)?;
+        is_done_in_pieces(&rt, 4096, word, input, text)?;
     }
     Ok(())
 }
@@ -206,7 +253,7 @@ fn any_byte_anywhere_is_read_or_refused(rt: HostRuntime) -> Result<(), Fail> {
         let before = bytes[place];
         for byte in 0..=255u8 {
             bytes[place] = byte;
-            let (exit, _) = run(alloc, &bytes)?;
+            let (exit, _) = call(alloc, "run", &bytes)?;
             assert!(&rt; is_read_or_refused(exit));
         }
         bytes[place] = before;
@@ -231,11 +278,11 @@ fn the_largest_input_is_read_and_no_larger_one(rt: HostRuntime) -> Result<(), Fa
     let mut bytes = Vec::from_slice(alloc, FIRST.as_bytes())?;
     bytes.push(b'\n')?;
     bytes.resize(1_048_576, b';')?;
-    let (exit, sink) = run(alloc, &bytes)?;
+    let (exit, sink) = call(alloc, "run", &bytes)?;
     assert_eq!(&rt; exit, Exit::Done);
     assert_eq!(&rt; sink.bytes(), FIRST_REPORT.as_bytes());
     bytes.push(b';')?;
-    let (exit, sink) = run(alloc, &bytes)?;
+    let (exit, sink) = call(alloc, "run", &bytes)?;
     let fault = ScriptFault::TooLarge;
     assert_eq!(&rt; exit, Exit::Refused { fault });
     assert_eq!(&rt; sink.bytes(), b"refused too large\n".as_slice());

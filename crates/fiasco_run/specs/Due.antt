@@ -1,0 +1,132 @@
+-- What a call comes to, and from what. `given` is the bytes that the source had left, where it tells them.
+use Rattle.std.specs.Prelude.{◌≡◌, ◌≤◌, ◌<◌, ℕ, List, length, Option, Some, None, IfSome}
+use Rattle.k_ids.specs.declared.threads.Found.{Found}
+use Rattle.k_ids.specs.declared.histories.Entry.{Entry}
+use Rattle.k_ids.specs.declared.histories.ReplyLine.{ReplyLine}
+use Rattle.k_outside.specs.Outside.{Rose}
+use Rattle.k_input.specs.Taken.{most_bytes}
+use Rattle.k_input.specs.Division.{script_part, history_part, IsInputLarge}
+use Rattle.k_script.specs.Script.{Script}
+use Rattle.k_reader.specs.declared.fault.ScriptFault.{ScriptFault}
+use Rattle.k_reader.specs.declared.fault.ScriptFault.TheVariants as fault
+use Rattle.k_play.specs.Reports.{IsRun}
+use Rattle.k_history.specs.declared.verdict.Verdict.{Verdict}
+use Rattle.k_history.specs.declared.verdict.Verdict.TheVariants as verdict
+use Rattle.k_history.specs.Verdicts.{IsVerdict, verdict_text}
+use Rattle.k_history.specs.Report.{report_text}
+use Rattle.fiasco_run.specs.declared.call.Call.{Call}
+use Rattle.fiasco_run.specs.declared.call.Call.TheVariants as call
+use Rattle.fiasco_run.specs.declared.exit.Exit.{Exit}
+use Rattle.fiasco_run.specs.declared.exit.Exit.TheVariants as exit
+use Rattle.fiasco_run.specs.declared.due.Due.{Due}
+use Rattle.fiasco_run.specs.declared.due.Due.TheVariants as due
+use Rattle.fiasco_run.specs.Exits.{exit_text}
+use Rattle.k_reader.specs.Refused.{script_fault}
+use Rattle.fiasco_run.specs.Scripts.{IsScriptOf, run_fault}
+
+-- The bytes that the source had left, where it tells them, are these.
+abbrev pub IsGiven : Option (List ℕ) → List ℕ → Type 0
+IsGiven given bytes = IfSome given (λ left. left ≡ bytes)
+
+-- RUN. Done: the bytes are a text of a script within the limits; this is a legal, playing, finished history of the script,
+-- and these are the replies of its replay, by number, version and serial, and its final statuses.
+pub record IsRunOfBytes (bytes : List ℕ) (history : List Entry) (replies : List ReplyLine) (finals : List Found) : Type 0 where
+  pub small : length bytes ≤ most_bytes
+  pub accepted : run_fault bytes ≡ None
+  pub script : Script
+  pub spelled : IsScriptOf bytes script
+  pub run : IsRun script history replies finals
+
+pub record IsRunOf (given : Option (List ℕ)) (history : List Entry) (replies : List ReplyLine) (finals : List Found) : Type 0 where
+  pub bytes : List ℕ
+  pub is_given : IsGiven given bytes
+  pub run : IsRunOfBytes bytes history replies finals
+
+-- The bytes are not too many, and this is why they are not run.
+pub record IsRunFault (given : Option (List ℕ)) (f : ScriptFault) : Type 0 where
+  pub bytes : List ℕ
+  pub is_given : IsGiven given bytes
+  pub small : length bytes ≤ most_bytes
+  pub refused : run_fault bytes ≡ Some f
+
+abbrev pub IsRunRefusal : Option (List ℕ) → ScriptFault → Type 0
+IsRunRefusal given fault.TooLarge = IfSome given (λ bytes. most_bytes < length bytes)
+IsRunRefusal given (fault.Line line reason) = IsRunFault given (fault.Line line reason)
+IsRunRefusal given (fault.TooLong steps) = IsRunFault given (fault.TooLong steps)
+IsRunRefusal given fault.NoMemory = ⊥
+
+-- Want of memory is free.
+abbrev pub IsRunStatus : Option (List ℕ) → ℕ → ℕ → Exit → Type 0
+IsRunStatus given before now exit.Done = ⊥
+IsRunStatus given before now (exit.Refused f) = IsRunRefusal given f
+IsRunStatus given before now exit.Usage = ⊥
+IsRunStatus given before now exit.ReadFault = Rose before now
+IsRunStatus given before now exit.WriteFault = ⊥
+IsRunStatus given before now exit.NoMemory = Unit {0}
+IsRunStatus given before now (exit.Illegal v) = ⊥
+
+-- CHECK. The bytes before the line `--` are a text of a script within the limits, and this is the verdict on the lines behind
+-- it.
+pub record IsJudgedIn (bytes : List ℕ) (v : Verdict) : Type 0 where
+  pub small : ¬ IsInputLarge bytes
+  pub accepted : script_fault (script_part bytes) ≡ None
+  pub script : Script
+  pub spelled : IsScriptOf (script_part bytes) script
+  pub judged : IsVerdict script (history_part bytes) v
+
+pub record IsJudged (given : Option (List ℕ)) (v : Verdict) : Type 0 where
+  pub bytes : List ℕ
+  pub is_given : IsGiven given bytes
+  pub verdict : IsJudgedIn bytes v
+
+-- The input is not too large, and this is why what stands before the line `--` is no script within the limits.
+pub record IsCheckFault (given : Option (List ℕ)) (f : ScriptFault) : Type 0 where
+  pub bytes : List ℕ
+  pub is_given : IsGiven given bytes
+  pub small : ¬ IsInputLarge bytes
+  pub refused : script_fault (script_part bytes) ≡ Some f
+
+abbrev pub IsCheckRefusal : Option (List ℕ) → ScriptFault → Type 0
+IsCheckRefusal given fault.TooLarge = IfSome given IsInputLarge
+IsCheckRefusal given (fault.Line line reason) = IsCheckFault given (fault.Line line reason)
+IsCheckRefusal given (fault.TooLong steps) = IsCheckFault given (fault.TooLong steps)
+IsCheckRefusal given fault.NoMemory = ⊥
+
+abbrev pub IsLegal : Verdict → Type 0
+IsLegal (verdict.Legal events) = Unit {0}
+IsLegal (verdict.Unreadable line) = ⊥
+IsLegal (verdict.Illegal index found serial) = ⊥
+IsLegal (verdict.Strange index) = ⊥
+IsLegal (verdict.Differs index outcome) = ⊥
+IsLegal (verdict.Unfinished who) = ⊥
+
+abbrev pub IsCheckStatus : Option (List ℕ) → ℕ → ℕ → Exit → Type 0
+IsCheckStatus given before now exit.Done = ⊥
+IsCheckStatus given before now (exit.Refused f) = IsCheckRefusal given f
+IsCheckStatus given before now exit.Usage = ⊥
+IsCheckStatus given before now exit.ReadFault = Rose before now
+IsCheckStatus given before now exit.WriteFault = ⊥
+IsCheckStatus given before now exit.NoMemory = Unit {0}
+IsCheckStatus given before now (exit.Illegal v) = (¬ IsLegal v) × IsJudged given v
+
+-- WHAT IS DUE, by the call that the words ask for, the bytes, and the source's counts of faults before and now
+abbrev pub IsDue : Option Call → Option (List ℕ) → ℕ → ℕ → Due → Type 0
+IsDue None given before now (due.Report end) = ⊥
+IsDue None given before now (due.Legal events) = ⊥
+IsDue None given before now (due.Status e) = e ≡ exit.Usage
+IsDue (Some call.Run) given before now (due.Report end) = IsRunOf given end.history.items end.replies.items end.finals.items
+IsDue (Some call.Run) given before now (due.Legal events) = ⊥
+IsDue (Some call.Run) given before now (due.Status e) = IsRunStatus given before now e
+IsDue (Some call.Check) given before now (due.Report end) = ⊥
+IsDue (Some call.Check) given before now (due.Legal events) = IsJudged given (verdict.Legal events)
+IsDue (Some call.Check) given before now (due.Status e) = IsCheckStatus given before now e
+
+abbrev pub exit_of : Due → Exit
+exit_of (due.Report end) = exit.Done
+exit_of (due.Legal events) = exit.Done
+exit_of (due.Status e) = e
+
+abbrev pub text_of : Due → List ℕ
+text_of (due.Report end) = report_text end.history.items end.replies.items end.finals.items
+text_of (due.Legal events) = verdict_text (verdict.Legal events)
+text_of (due.Status e) = exit_text e

@@ -18,7 +18,7 @@ use Rattle.k_senders.specs.Queue.{Queue, number_of, without}
 use Rattle.k_ready.specs.Lists.{list_of, with_list}
 use Rattle.k_locks.specs.Shown.{shows}
 use Rattle.k_ipc.specs.Words.{is_joined_to}
-use Rattle.k_model.specs.Answers.{reply_to}
+use Rattle.k_model.specs.Answered.{reply_to}
 use Rattle.k_model.specs.State.{is_present, is_run, same_id}
 use Rattle.k_model.proofs.Lists.{all_weaker}
 use Rattle.k_alone.specs.Memory.{Memory, table, waiting, waiting_of}

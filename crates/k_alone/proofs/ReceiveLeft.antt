@@ -21,7 +21,7 @@ use Rattle.k_senders.specs.declared.entries.SenderEntry.{SenderEntry}
 use Rattle.k_senders.specs.Queue.{Queue, number_of}
 use Rattle.k_locks.specs.Shown.{shows}
 use Rattle.k_ipc.specs.Words.{message_of, sender_of}
-use Rattle.k_model.specs.Answers.{reply_to}
+use Rattle.k_model.specs.Answered.{reply_to}
 use Rattle.k_model.specs.Maps.{upd}
 use Rattle.k_model.specs.State.{same_id}
 use Rattle.k_model.specs.Step.{status_after}

@@ -27,7 +27,7 @@ use Rattle.k_ipc.specs.SendTable.{send_of, phase_by, passed_end, is_joined, afte
 use Rattle.k_ipc.specs.Words.{entry_for}
 use Rattle.k_model.specs.State.{KernelState, answered, found_of, is_dead, is_present, is_run, same_id, takes_from, with_status}
 use Rattle.k_model.specs.Step.{acted, made, called, send, sent, passed, queued}
-use Rattle.k_model.specs.Answers.{reply_to}
+use Rattle.k_model.specs.Answered.{reply_to}
 use Rattle.k_model.specs.Maps.{upd}
 use Rattle.k_model.proofs.Maps.{upd_same}
 use Rattle.k_model.proofs.Places.{queued_status}

@@ -31,7 +31,7 @@ use Rattle.k_locks.specs.Steps.{answer_of, becomes, goods_returned, lock_taken, 
 use Rattle.k_model.specs.State.{KernelState, is_picking}
 use Rattle.k_model.specs.Step.{called}
 use Rattle.k_model.specs.History.{IsReplay}
-use Rattle.k_model.specs.Answers.{is_waiting, reply_to}
+use Rattle.k_model.specs.Answered.{is_waiting, reply_to}
 use Rattle.k_alone.specs.Memory.{Memory, Shows, with_word, with_mail, with_context, with_numbers, with_queue, with_ready}
 use Rattle.k_alone.specs.Leaves.{Leaves}
 use Rattle.k_alone.specs.Sound.{IsSoundMemory}

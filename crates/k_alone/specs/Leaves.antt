@@ -24,7 +24,7 @@ use Rattle.k_ready.specs.Lists.{list_of}
 use Rattle.k_locks.specs.Shown.{shows}
 use Rattle.k_ipc.specs.Words.{on_in}
 use Rattle.k_threads.specs.Words.{created_word}
-use Rattle.k_model.specs.Answers.{reply_to}
+use Rattle.k_model.specs.Answered.{reply_to}
 use Rattle.k_model.specs.State.{is_dead, is_present, is_run, same_id}
 use Rattle.k_alone.specs.Memory.{Memory, table, waiting}
 

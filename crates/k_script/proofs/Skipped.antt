@@ -25,10 +25,10 @@ some_front op ls h = omega (arith, length_in_front op ls)
 some_before : (op : Operation) (ls : List (List Operation)) → 1 ≤ length ls → 1 ≤ length (levels_before op ls)
 some_before (operation.Repeat count) ls h = some_repeated count ls h
 some_before operation.Again ls h = omega arith
-some_before (operation.Send to low high soon) ls h = some_front (operation.Send to low high soon) ls h
-some_before (operation.Receive from soon) ls h = some_front (operation.Receive from soon) ls h
-some_before (operation.Call to low high soon) ls h = some_front (operation.Call to low high soon) ls h
-some_before (operation.Reply low high soon) ls h = some_front (operation.Reply low high soon) ls h
+some_before (operation.Send to low high zero) ls h = some_front (operation.Send to low high zero) ls h
+some_before (operation.Receive from zero) ls h = some_front (operation.Receive from zero) ls h
+some_before (operation.Call to low high zero) ls h = some_front (operation.Call to low high zero) ls h
+some_before (operation.Reply low high zero) ls h = some_front (operation.Reply low high zero) ls h
 some_before (operation.Create program priority) ls h = some_front (operation.Create program priority) ls h
 some_before (operation.Destroy victim) ls h = some_front (operation.Destroy victim) ls h
 some_before (operation.Work count) ls h = some_front (operation.Work count) ls h

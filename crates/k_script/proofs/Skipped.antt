@@ -72,17 +72,6 @@ over_empty ops place count end skip opens within ends behind = record {
       ∙ sym (levels_at ops more place (operation.Repeat count) opens);
 }
 
--- ONE SKIP of the places' more
-pub skips_set : (ops : List Operation) (skips : List ℕ) (place skip : ℕ) → AreSkips ops skips → place < length skips → IsSkip ops place skip → AreSkips ops (set skips place skip)
-skips_set ops skips place skip are inside is k below = elim (cases_eq k place) [
-  | inl e ↦
-      let there : skip_in (set skips place skip) k ≡ skip = ap (λ (i : ℕ). get_or (set skips place skip) i k) e ∙ get_or-set_same skips place skip k inside in
-      subst (IsSkip ops k) (sym there) (subst (λ (i : ℕ). IsSkip ops i skip) (sym e) is)
-  | inr n ↦
-      let there : skip_in (set skips place skip) k ≡ skip_in skips k = get_or-set_other skips place k skip k n in
-      subst (IsSkip ops k) (sym there) (are k (omega (arith, length-set skips place skip)))
-]
-
 -- IN BETWEEN two operations a skip is one of the markers passed
 
 passes_skip : (ops : List Operation) (skips : List ℕ) (old c : Cursor) (n : ℕ) → AreSkips ops skips → Passes ops old c n → Passes ops old (record c { at = skip_in skips c.at }) n × (ahead ops (record c { at = skip_in skips c.at }) n ≤ ahead ops c n)

@@ -180,9 +180,6 @@ pub record Passes (ops : List Operation) (old new : Cursor) (n : ℕ) : Type 0 w
   pub placed : IsCursor ops new
   pub entered : Entered ops n [] (open_turns new) (levels (drop new.at ops))
 
-pub passes_none : (ops : List Operation) (c : Cursor) → IsCursor ops c → Passes ops c c 0
-passes_none ops c h = record { same = refl; placed = h; entered = tt }
-
 pub passes_few : (ops : List Operation) (old new : Cursor) (n : ℕ) → IsNested ops → Passes ops old new n → (n + 1 ≤ length (levels (drop new.at ops))) × (length (levels (drop new.at ops)) ≤ 5)
 passes_few ops old new n nested p =
     let few = levels_few ops new.at nested.nested in

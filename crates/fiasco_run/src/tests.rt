@@ -44,16 +44,16 @@ fn sink(alloc: Global, fails: &[u32]) -> Result<MemSink, Fail> {
 fn is_write_fault(
     rt: &(impl Abort + AllocGlobal),
     (word, input, text): (&str, &str, &str),
-    call: usize,
+    call: u32,
 ) -> Result<(), Fail> {
     let alloc = rt.alloc();
     let mut source = source(alloc, input, &[])?;
-    let mut sink = sink(alloc, &[call as u32])?;
+    let mut sink = sink(alloc, &[call])?;
     let exit = top(alloc, &words(alloc, word)?, &mut source, &mut sink);
     assert_eq!(rt; exit, Exit::WriteFault);
     assert_eq!(rt; sink.faults(), 1);
     let mut front = String::new(alloc);
-    for line in text.split_inclusive('\n').take(call) {
+    for (line, _) in text.split_inclusive('\n').zip(0..call) {
         front.push_str(line)?;
     }
     assert_eq!(rt; sink.bytes(), front.as_bytes());

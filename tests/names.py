@@ -28,8 +28,8 @@ class Thing:
 
     crate: str
     name: str
-    path: Path = field(compare=False)
-    line: int = field(compare=False)
+    path: Path
+    line: int
     kind: str = field(compare=False)
     words: str = field(compare=False, repr=False)
     comment: str = field(compare=False, repr=False)
@@ -68,8 +68,8 @@ def cut(path, at, end):
 def definitions(path):
     """The definitions of a file of specs, by name; a constructor of a `data` names the whole."""
     lines = lines_of(path)
-    heads = [(i, HEAD.match(line)) for i, line in enumerate(lines) if not line.startswith(("use ", "--", "pub mod"))]
-    heads = [(i, match.group(1) or match.group(2)) for i, match in heads if match]
+    matches = [(i, HEAD.match(line)) for i, line in enumerate(lines) if not line.startswith(("use ", "--", "pub mod"))]
+    heads = [(i, match.group(1) or match.group(2)) for i, match in matches if match]
     found = {}
     for (at, name), (end, _) in zip(heads, heads[1:] + [(len(lines), "")]):
         words = cut(path, at, end)
@@ -79,11 +79,6 @@ def definitions(path):
         if kind == "data":
             found.update((constructor, thing) for constructor in FIELD.findall(words))
     return found
-
-
-def specs_of(crate, module):
-    path = CRATES / crate / "specs" / f"{module}.antt"
-    return definitions(path) if path.exists() else {}
 
 
 @lru_cache(maxsize=None)
@@ -117,7 +112,8 @@ def named(module, name):
     if parts[2] == "declared":
         kind = [part for part in parts[3:] if part != "TheVariants" and part[0].isupper()]
         return types_of(parts[0]).get(kind[0] if kind else name)
-    return specs_of(parts[0], ".".join(parts[2:])).get(name)
+    path = CRATES / parts[0] / "specs" / f"{'.'.join(parts[2:])}.antt"
+    return definitions(path).get(name) if path.exists() else None
 
 
 @lru_cache(maxsize=None)
@@ -125,8 +121,8 @@ def scope_of(path):
     """What a file's words may name: the names that it uses or defines, and its names for modules."""
     names, modules = {}, {}
     for module, taken, other in USE.findall("\n".join(lines_of(path))):
-        for name in filter(None, (part.strip() for part in taken.split(","))):
-            names[name] = named(module, name)
+        for name, _, here in (part.strip().partition(" as ") for part in taken.split(",") if part.strip()):
+            names[here or name] = named(module, name)
         if not taken:
             modules[other or module.split(".")[-1]] = module
     names.update(definitions(path) if path.suffix == ".antt" else {})

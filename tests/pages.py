@@ -16,7 +16,7 @@ def filled(text, makers):
 
     def part(match):
         lines = makers[match.group(2)]((match.group(3) or "").split())
-        return "\n".join([match.group(1) + "", *lines, "", match.group(4)])
+        return "\n".join([match.group(1), *lines, "", match.group(4)] if lines else [match.group(1) + match.group(4)])
 
     return PART.sub(part, text)
 

@@ -5,8 +5,9 @@
     tests/theorems.py --check    fails where the page isn't what would be written
 
 `<!-- functions: CRATE/FILE .. -->` is followed by the functions of these files, or by those named in `CRATE/FILE:NAME,NAME`;
-`<!-- clauses: CRATE/FILE:NAME -->` by the clauses of one function; `<!-- counts -->` by how many there are. Each law of a file
-`laws.rt` has to stand in some part. What a function says is the first sentence of the comment over it.
+`<!-- laws: CRATE .. -->` by all laws of these crates, if they have any; `<!-- clauses: CRATE/FILE:NAME -->` by the clauses of one
+function; `<!-- counts -->` by how many laws there are. Each law of a file `laws.rt` has to stand in some part. What a function says
+is the first sentence of the comment over it.
 """
 
 import re
@@ -83,11 +84,18 @@ HEADS = ("Function", "Line", "It says", "Clauses", "By these definitions", "Lemm
 
 
 def rows(words):
-    """The tables of a part, one for each file."""
+    """The tables of some functions, one for each file."""
+    return tables(function for word in words for function in chosen(word))
+
+
+def law_rows(crates):
+    return tables(law for crate in crates for law in laws() if law.crate == crate)
+
+
+def tables(found):
     lines, files = [], {}
-    for word in words:
-        for function in chosen(word):
-            files.setdefault(function.path, []).append(function)
+    for function in found:
+        files.setdefault(function.path, []).append(function)
     for path, found in files.items():
         lines += [f"`{path.relative_to(ROOT)}`", "", *table(HEADS, [row(f) for f in found]), ""]
     return lines[:-1]
@@ -123,12 +131,11 @@ def counts(words):
 
 def page_of(text):
     """The page, with its parts written anew."""
-    named = [f for kind, words in marks_of(text) if kind == "functions" for word in words for f in chosen(word)]
-    names = {(f.crate, f.name) for f in named}
-    lost = [f"{law.crate} {law.name}" for law in laws() if (law.crate, law.name) not in names]
+    crates = {crate for kind, words in marks_of(text) if kind == "laws" for crate in words}
+    lost = [f"{law.crate} {law.name}" for law in laws() if law.crate not in crates]
     if lost:
         raise SystemExit(f"THEOREMS.md: no part is for {', '.join(lost)}")
-    return filled(text, {"functions": rows, "clauses": clause_rows, "counts": counts})
+    return filled(text, {"functions": rows, "laws": law_rows, "clauses": clause_rows, "counts": counts})
 
 
 if __name__ == "__main__":

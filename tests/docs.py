@@ -1,11 +1,12 @@
 #!/usr/bin/env python3
 """Runs the examples of README.md and docs/ through the built program, and compares what it says.
 
-    tests/docs.py [PROGRAM]
+    tests/docs.py [--check] [PROGRAM]
 
 These are the examples: lines that begin with `$ ` in a block, with the output below each; in docs/SCRIPT.md the scripts in blocks,
 and the rows of an input and its refusal; in docs/REPORT.md the rows of an example, which has to be a line of a file in examples/,
-and the rows of a change to examples/call-history.check and its verdict. The last line says how many there were.
+and the rows of a change to examples/call-history.check and its verdict. The last line says how many there were. PROGRAM is
+crates/fiasco_run/out/fiasco_run if none is named. It writes nothing, so `--check` changes nothing.
 """
 
 import re
@@ -100,8 +101,8 @@ def changed(lines, change):
 
 
 def main():
-    program = sys.argv[1] if len(sys.argv) > 1 else str(ROOT / "crates/fiasco_run/out/fiasco_run")
-    examples = Examples(program)
+    named = [word for word in sys.argv[1:] if word != "--check"]
+    examples = Examples(named[0] if named else str(ROOT / "crates/fiasco_run/out/fiasco_run"))
     for page in [ROOT / "README.md", *sorted((ROOT / "docs").glob("*.md"))]:
         text = page.read_text(encoding="utf-8")
         examples.shell(page.relative_to(ROOT), text)

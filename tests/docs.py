@@ -3,10 +3,10 @@
 
     tests/docs.py [--check] [PROGRAM]
 
-These are the examples: lines that begin with `$ ` in a block, with the output below each; in docs/SCRIPT.md the scripts in blocks,
-and the rows of an input and its refusal; in docs/REPORT.md the rows of an example, which has to be a line of a file in examples/,
-and the rows of a change to examples/call-history.check and its verdict. The last line says how many there were. PROGRAM is
-crates/fiasco_run/out/fiasco_run if none is named. It writes nothing, so `--check` changes nothing.
+These are the examples: lines that begin with `$ ` in a block, with the output below each; in docs/SCRIPT.md the scripts in
+blocks, and the rows of an input and its refusal; in docs/REPORT.md the rows of an example, which has to be a line of a file in
+examples/, and the rows of a change to examples/call-history.check and its verdict. The last line says how many there were.
+PROGRAM is crates/fiasco_run/out/fiasco_run if none is named. It writes nothing, so `--check` changes nothing.
 """
 
 import re

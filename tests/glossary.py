@@ -4,9 +4,9 @@
     tests/glossary.py            writes the part of the page that stands between its marks
     tests/glossary.py --check    fails where the page isn't what would be written
 
-In a table with the columns `Our word` and `Where`, each word has to stand in one of the files of its row, and each file has to have
-one of the words. Files are named from crates/ on, or from docs/. `<!-- twice -->` is followed by the words of the top call's
-clauses that have two definitions.
+In a table with the columns `Our word` and `Where`, each word has to stand in one of the files of its row, and each file has to
+have one of the words. Files are named from crates/ on, or from docs/. `<!-- twice -->` is followed by the words of the top
+call's clauses that have two definitions.
 """
 
 import re
@@ -19,6 +19,10 @@ PAGE = ROOT / "docs" / "GLOSSARY.md"
 CODE = re.compile(r"`([^`]+)`")
 
 
+def stands(word, text):
+    return re.search(rf"(?<!\w){re.escape(word)}(?!\w)", text)
+
+
 def faults_of(row, words, files):
     """What is wrong with a row."""
     texts = {}
@@ -27,7 +31,7 @@ def faults_of(row, words, files):
         if not path.is_file():
             return [f"{name}: there is no such file"]
         texts[name] = path.read_text(encoding="utf-8")
-    found = {word: {name for name, text in texts.items() if re.search(rf"(?<!\w){re.escape(word)}(?!\w)", text)} for word in words}
+    found = {word: {name for name, text in texts.items() if stands(word, text)} for word in words}
     faults = [f"`{word}` doesn't stand in {', '.join(files)}" for word, homes in found.items() if not homes]
     faults += [f"{name} has none of the words of its row" for name in files if not any(name in homes for homes in found.values())]
     return faults if words and files else [f"no word or no file: {row}"]
@@ -56,7 +60,8 @@ def twice(_):
     rows = []
     for name in sorted(homes, key=str.lower):
         for thing in sorted(homes[name], key=lambda t: t.place) if len(homes[name]) > 1 else []:
-            rows.append((f"`{name}`", f"`{thing.place.removeprefix('crates/')}`", thing.line, sentence(thing.comment) or shape(thing)))
+            place = thing.place.removeprefix("crates/")
+            rows.append((f"`{name}`", f"`{place}`", thing.line, sentence(thing.comment) or shape(thing)))
     return table(("Word", "File", "Line", "It says"), rows)
 
 

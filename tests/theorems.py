@@ -5,9 +5,9 @@
     tests/theorems.py --check    fails where the page isn't what would be written
 
 `<!-- functions: CRATE/FILE .. -->` is followed by the functions of these files, or by those named in `CRATE/FILE:NAME,NAME`;
-`<!-- laws: CRATE .. -->` by all laws of these crates, if they have any; `<!-- clauses: CRATE/FILE:NAME -->` by the clauses of one
-function; `<!-- counts -->` by how many laws there are. Each law of a file `laws.rt` has to stand in some part. What a function says
-is the first sentence of the comment over it.
+`<!-- laws: CRATE .. -->` by all laws of these crates, if they have any; `<!-- clauses: CRATE/FILE:NAME -->` by the clauses of
+one function; `<!-- counts -->` by how many laws there are. Each law of a file `laws.rt` has to stand in some part. What a
+function says is the first sentence of the comment over it.
 """
 
 import re

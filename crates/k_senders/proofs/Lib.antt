@@ -1,6 +1,2 @@
-pub mod Appended
-pub mod Walked
-pub mod Removed
-pub mod Rows
-pub mod Places
-mod Counted
+pub mod EntrySpelled
+pub mod Positions

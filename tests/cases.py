@@ -105,6 +105,9 @@ class Block:
     def holes(self):
         return sum(it.holes() for it in self.parts if isinstance(it, Line))
 
+    def names(self):
+        return [it for it in self.parts if not isinstance(it, Line)]
+
     def bytes(self, texts, row=None):
         """Returns its bytes, with the row in the hole."""
         demand(self.parts, "a block has no line")
@@ -116,18 +119,19 @@ class Texts:
 
     def __init__(self, items):
         self.items = {it.name: it for it in items}
-        self.used, self.open = set(), set()
+        self.used = set()
+
+    def check(self, block, above=()):
+        """Looks whether all texts that a block names are there, and none is in itself."""
+        for name in block.names():
+            demand(name in self.items, f"no text has the name {name}")
+            demand(name not in above, f"the text {name} is in itself")
+            demand(not self.items[name].block.holes(), f"the text {name} has a hole")
+            self.used.add(name)
+            self.check(self.items[name].block, (*above, name))
 
     def bytes(self, name):
-        demand(name in self.items, f"no text has the name {name}")
-        block = self.items[name].block
-        demand(name not in self.open and not block.holes(), f"the text {name} has a hole, or itself in it")
-        self.used.add(name)
-        self.open.add(name)
-        try:
-            return block.bytes(self)
-        finally:
-            self.open.remove(name)
+        return self.items[name].block.bytes(self)
 
 
 # Cases.
@@ -242,6 +246,8 @@ class Single(Item):
         demand(self.words is not None and self.input, "the words or the input is missing")
         demand(self.status is not None and self.output, "the status or the output is missing")
         demand(not self.input.holes() and not self.output.holes(), "a hole stands in a table alone")
+        for it in (self.input, self.output):
+            texts.check(it)
         given, wanted = (lambda: self.input.bytes(texts)), (lambda: self.output.bytes(texts))
         given()
         demand(wanted(), "the output is empty")
@@ -340,6 +346,8 @@ class Table(Item):
         demand(self.words is not None and self.inputs, "the words or the input is missing")
         demand(self.rows and not self.unused, "a row is missing")
         demand(len({it.key for it in self.rows}) == len(self.rows), "a row stands there twice")
+        for it in self.inputs:
+            texts.check(it)
         return [self.case(texts, block, row) for row in self.rows for block in self.inputs]
 
     def case(self, texts, block, row):

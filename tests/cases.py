@@ -162,9 +162,14 @@ class Case:
         return "\n    ".join(faults) or None
 
 
+def lines_of(text):
+    """Returns the lines of a text, each with its line feed where it has one."""
+    return re.findall(rb".*\n|.+", text)
+
+
 def difference(found, wanted):
     """Says where two outputs differ first."""
-    found, wanted = found.splitlines(keepends=True), wanted.splitlines(keepends=True)
+    found, wanted = lines_of(found), lines_of(wanted)
     at = 0
     while found[at:at + 1] == wanted[at:at + 1]:
         at += 1
@@ -287,7 +292,7 @@ def in_place(given, old, new):
 def with_lines(given, what, number):
     """Drops or doubles this line of the history, from 1, or exchanges it with the next one."""
     script, divider, history = given.partition(b"\n--\n")
-    lines, at = history.splitlines(keepends=True), number - 1
+    lines, at = lines_of(history), number - 1
     demand(divider and 0 <= at < len(lines) - (what == "exchange"), "the history has no such line")
     new = {"drop": [], "double": [lines[at]] * 2, "exchange": lines[at:at + 2][::-1]}[what]
     lines[at:at + 1 + (what == "exchange")] = new
@@ -337,6 +342,8 @@ class Table(Item):
     def take_change(self, what, rest):
         number, _, outcome = rest.partition(": ")
         demand(re.fullmatch("[0-9]+", number), "the number of a line of the history is missing")
+        demand(not self.unused, "no row stands behind the line before")
+        self.place, self.outcome = None, None
         self.add_rows(what, [int(number)], outcome_of(outcome))
 
     KEYWORDS = {"words": Item.take_words, "input": take_input, "at": take_at, "rows": take_rows}

@@ -105,6 +105,9 @@ class Block:
     def holes(self):
         return sum(it.holes() for it in self.parts if isinstance(it, Line))
 
+    def names(self):
+        return [it for it in self.parts if not isinstance(it, Line)]
+
     def bytes(self, texts, row=None):
         """Returns its bytes, with the row in the hole."""
         demand(self.parts, "a block has no line")
@@ -116,18 +119,19 @@ class Texts:
 
     def __init__(self, items):
         self.items = {it.name: it for it in items}
-        self.used, self.open = set(), set()
+        self.used = set()
+
+    def check(self, block, above=()):
+        """Looks whether all texts that a block names are there, and none is in itself."""
+        for name in block.names():
+            demand(name in self.items, f"no text has the name {name}")
+            demand(name not in above, f"the text {name} is in itself")
+            demand(not self.items[name].block.holes(), f"the text {name} has a hole")
+            self.used.add(name)
+            self.check(self.items[name].block, (*above, name))
 
     def bytes(self, name):
-        demand(name in self.items, f"no text has the name {name}")
-        block = self.items[name].block
-        demand(name not in self.open and not block.holes(), f"the text {name} has a hole, or itself in it")
-        self.used.add(name)
-        self.open.add(name)
-        try:
-            return block.bytes(self)
-        finally:
-            self.open.remove(name)
+        return self.items[name].block.bytes(self)
 
 
 # Cases.
@@ -158,9 +162,14 @@ class Case:
         return "\n    ".join(faults) or None
 
 
+def lines_of(text):
+    """Returns the lines of a text, each with its line feed where it has one."""
+    return re.findall(rb".*\n|.+", text)
+
+
 def difference(found, wanted):
     """Says where two outputs differ first."""
-    found, wanted = found.splitlines(keepends=True), wanted.splitlines(keepends=True)
+    found, wanted = lines_of(found), lines_of(wanted)
     at = 0
     while found[at:at + 1] == wanted[at:at + 1]:
         at += 1
@@ -242,6 +251,8 @@ class Single(Item):
         demand(self.words is not None and self.input, "the words or the input is missing")
         demand(self.status is not None and self.output, "the status or the output is missing")
         demand(not self.input.holes() and not self.output.holes(), "a hole stands in a table alone")
+        for it in (self.input, self.output):
+            texts.check(it)
         given, wanted = (lambda: self.input.bytes(texts)), (lambda: self.output.bytes(texts))
         given()
         demand(wanted(), "the output is empty")
@@ -281,7 +292,7 @@ def in_place(given, old, new):
 def with_lines(given, what, number):
     """Drops or doubles this line of the history, from 1, or exchanges it with the next one."""
     script, divider, history = given.partition(b"\n--\n")
-    lines, at = history.splitlines(keepends=True), number - 1
+    lines, at = lines_of(history), number - 1
     demand(divider and 0 <= at < len(lines) - (what == "exchange"), "the history has no such line")
     new = {"drop": [], "double": [lines[at]] * 2, "exchange": lines[at:at + 2][::-1]}[what]
     lines[at:at + 1 + (what == "exchange")] = new
@@ -331,6 +342,8 @@ class Table(Item):
     def take_change(self, what, rest):
         number, _, outcome = rest.partition(": ")
         demand(re.fullmatch("[0-9]+", number), "the number of a line of the history is missing")
+        demand(not self.unused, "no row stands behind the line before")
+        self.place, self.outcome = None, None
         self.add_rows(what, [int(number)], outcome_of(outcome))
 
     KEYWORDS = {"words": Item.take_words, "input": take_input, "at": take_at, "rows": take_rows}
@@ -340,6 +353,8 @@ class Table(Item):
         demand(self.words is not None and self.inputs, "the words or the input is missing")
         demand(self.rows and not self.unused, "a row is missing")
         demand(len({it.key for it in self.rows}) == len(self.rows), "a row stands there twice")
+        for it in self.inputs:
+            texts.check(it)
         return [self.case(texts, block, row) for row in self.rows for block in self.inputs]
 
     def case(self, texts, block, row):

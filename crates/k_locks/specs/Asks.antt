@@ -1,6 +1,6 @@
 -- One step of a section on decoded words, without what a lock guards, and what came of it (Herlihy and Wing, *Linearizability*: an
 -- invocation and its response). The step on words as bits, with what moves along, is derived from it.
-use Rattle.std.specs.Prelude.{ℕ, Bool, true, false, Option, Some, None}
+use Rattle.std.specs.Prelude.{ℕ, ◌==◌, Bool, true, false, Option, Some, None}
 use Rattle.k_ids.specs.declared.threads.ThreadId.{ThreadId}
 use Rattle.k_ids.specs.declared.threads.Message.{Message}
 use Rattle.k_ids.specs.declared.state_word.StateWord.{StateWord}
@@ -105,6 +105,10 @@ is_again r = false
 abbrev pub is_lost : Response → Bool
 is_lost (Lost w) = true
 is_lost r = false
+
+-- whether an exchange that expects the second word finds it, where the first is there
+unfoldable pub same_word : StateWord → StateWord → Bool
+same_word found expected = state_bits found == state_bits expected
 
 -- WHAT A SECTION CAN HAVE TO WAIT FOR
 

@@ -51,6 +51,11 @@ abbrev pub hand_with : Answer → Hand → Hand
 hand_with (answer.Got goods) h = with_goods goods h
 hand_with (answer.Told t) h = h
 
+-- The goods that come with an answer; where none come, they are of no use.
+abbrev pub goods_in : Answer → Goods
+goods_in (answer.Got goods) = goods
+goods_in (answer.Told t) = goods.Senders no_queue
+
 -- WHAT THE LOCKS HELD LEAVE IN HAND
 
 abbrev pub if_held : {A : Type 0} → Option Lock → A → A → A

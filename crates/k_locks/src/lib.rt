@@ -19,6 +19,7 @@
 #![tactic(auto)]
 
 mod goods;
+mod laws;
 mod locks;
 mod numbers;
 mod points;
@@ -27,6 +28,10 @@ mod steps;
 mod threads;
 
 pub use goods::Goods;
+pub use laws::{
+    a_queue_is_parted, an_answer_is_a_response, an_exchange_is_of_words, places_are_apart,
+    the_lowest_is_held,
+};
 pub use locks::{Lock, WordName, rank};
 pub use numbers::Numbers;
 pub use points::Point;

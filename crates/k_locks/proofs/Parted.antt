@@ -2,8 +2,9 @@
 use Rattle.std.proofs.Common.{◌≡◌, ℕ, suc, Bool, true, false, Option, Some, None, List, [], ◌∷◌, ◌++◌, length, refl, sym, ap, ◌∙◌}
 use Rattle.std.specs.Prelude.{◌==◌, ◌||◌, drop, if◌then◌else◌}
 use Rattle.k_senders.specs.declared.entries.SenderEntry.{SenderEntry}
-use Rattle.k_senders.specs.Queue.{entry_of, number_of, stands}
-use Rattle.k_locks.specs.Entries.{before}
+use Rattle.k_senders.specs.Entries.{number_of}
+use Rattle.k_senders.specs.Queue.{entry_of, stands}
+use Rattle.k_locks.specs.Queues.{before}
 
 pub none_before : (n : ℕ) (es : List SenderEntry) → stands n (before n es) ≡ false
 none_before n [] = refl

@@ -10,7 +10,7 @@ ghost use Rattle.k_locks.specs.declared.locks.WordName.{WordName};
 ghost use Rattle.k_locks.specs.declared.steps.Answer.{Answer};
 ghost use Rattle.k_locks.specs.Asks as asks;
 ghost use Rattle.k_locks.specs.Asks.{Ask, response_of, same_word, step_for, suits_response, want_of};
-ghost use Rattle.k_locks.specs.Entries.{before};
+ghost use Rattle.k_locks.specs.Queues.{before};
 ghost use Rattle.k_locks.specs.Hands.{Hand, goods_in, hand_with};
 ghost use Rattle.k_locks.specs.Locks.{Holds, IsByRank, lowest_held, rank_of};
 ghost use Rattle.k_locks.specs.Places.{IsLock, IsWord, home_of, index_of, slot_of};

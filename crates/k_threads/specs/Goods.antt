@@ -1,4 +1,4 @@
--- What a section has in hand, and what comes and goes with a lock.
+-- What becomes of what a lock guards, and the locks that a create or a destroy holds.
 use Rattle.std.specs.Prelude.{ℕ, List, [], ◌∷◌, ◌++◌, if◌then◌else◌, Option, Some, None, map}
 use Rattle.k_ids.specs.declared.threads.ThreadId.{ThreadId}
 use Rattle.k_ready.specs.Lists.{Ready, has_thread, list_of, with_list, without}
@@ -6,46 +6,7 @@ use Rattle.k_senders.specs.declared.entries.SenderEntry.{SenderEntry}
 use Rattle.k_senders.specs.Queue.{Queue, without_thread}
 use Rattle.k_locks.specs.declared.locks.Lock.{Lock}
 use Rattle.k_locks.specs.declared.locks.Lock.TheVariants as lock
-use Rattle.k_locks.specs.declared.numbers.Numbers.{Numbers}
-use Rattle.k_locks.specs.declared.steps.Step.{Step}
-use Rattle.k_locks.specs.declared.steps.Step.TheVariants as step
 use Rattle.k_locks.specs.Threads.{who_of}
-
--- What the locks of each rank guard. The location says which of them are in hand; a table looks at no other.
-pub record Hand : Type 0 where
-  pub numbers : Numbers
-  pub senders : Queue
-  pub ready : Ready
-
--- what stands for what isn't in hand
-abbrev pub no_numbers : Numbers
-no_numbers = record { versions = []; present = 0; count = 0 }
-
-abbrev pub no_senders : Queue
-no_senders = record { entries = []; room = 0 }
-
-abbrev pub no_ready : Ready
-no_ready = record { lists = []; running = 0 }
-
-abbrev pub nothing : Hand
-nothing = record { numbers = no_numbers; senders = no_senders; ready = no_ready }
-
--- The hand once the step is asked for: what a lock guards goes with its release.
-abbrev pub without_goods : Lock → Hand → Hand
-without_goods lock.Table h = record h { numbers = no_numbers }
-without_goods (lock.Thread number) h = record h { senders = no_senders }
-without_goods lock.Ready h = record h { ready = no_ready }
-
-abbrev pub hand_asked : Step → Hand → Hand
-hand_asked (step.Release lock goods) h = without_goods lock h
-hand_asked (step.Load word) h = h
-hand_asked (step.Store word value) h = h
-hand_asked (step.Exchange word old new) h = h
-hand_asked (step.Acquire lock) h = h
-hand_asked (step.Place id program priority) h = h
-hand_asked (step.Remove id) h = h
-
--- WHAT IS PUT BACK
 
 -- A thread is put to the end of the list of its priority.
 abbrev pub pushed : ThreadId → ℕ → Ready → Ready

@@ -1,9 +1,2 @@
 mod Entries
 mod Unlisted
-mod Shapes
-mod CreateRuns
-mod DestroyRuns
-mod DestroyBound
-mod Tested
-mod CreateChain
-mod DestroyChain

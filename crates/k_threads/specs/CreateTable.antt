@@ -28,7 +28,6 @@ use Rattle.k_locks.specs.Asks.{Ask, Response, step_for, response_of}
 use Rattle.k_locks.specs.Asks as plain
 use Rattle.k_locks.specs.Hands.{Hand, nothing, no_lists, no_queue, hand_with}
 use Rattle.k_locks.specs.Numbers.{ThreadNumbers, alive, lowest_free, version_at, with_thread, worn}
-use Rattle.k_locks.specs.Runs.{makes}
 use Rattle.k_locks.specs.Shown.{is_dead}
 use Rattle.k_locks.specs.Threads.{IsThread}
 use Rattle.k_threads.specs.declared.create.CreateCall.{CreateCall}
@@ -45,7 +44,7 @@ use Rattle.k_threads.specs.declared.create.CreateLocation.TheVariants as locatio
 use Rattle.k_threads.specs.declared.create.CreateSection.{CreateSection}
 use Rattle.k_threads.specs.Goods.{no_lock, only_table, pushed, table_and_ready}
 use Rattle.k_threads.specs.Words.{created_word, dead_word, done_after}
-use Rattle.k_threads.specs.Went.{went_on}
+use Rattle.k_threads.specs.Went.{makes, went_on}
 
 -- A location: what is held there, and which step comes.
 pub data CreateAt : Type 0 where

@@ -36,7 +36,6 @@ use Rattle.k_locks.specs.Asks.{Ask, Response, step_for, response_of}
 use Rattle.k_locks.specs.Asks as plain
 use Rattle.k_locks.specs.Hands.{Hand, nothing, no_lists, no_queue, hand_with}
 use Rattle.k_locks.specs.Numbers.{ThreadNumbers, without_thread}
-use Rattle.k_locks.specs.Runs.{makes}
 use Rattle.k_locks.specs.Shown.{found_in, is_dead, is_present_in}
 use Rattle.k_locks.specs.Threads.{IsThread}
 use Rattle.k_threads.specs.declared.destroy.DestroyCall.{DestroyCall}
@@ -59,7 +58,7 @@ use Rattle.k_threads.specs.declared.destroy.DestroyLocation.TheVariants as locat
 use Rattle.k_threads.specs.declared.destroy.DestroySection.{DestroySection}
 use Rattle.k_threads.specs.Goods.{all_three, no_lock, only_table, pushed, rest, table_and_ready, table_and_thread, unlinked, unlisted, without_first}
 use Rattle.k_threads.specs.Words.{dead_word, done_after, freed_word, is_receiving_from, thread_at}
-use Rattle.k_threads.specs.Went.{went_on}
+use Rattle.k_threads.specs.Went.{makes, went_on}
 
 -- A location: what is held there, and which step comes.
 pub data DestroyAt : Type 0 where

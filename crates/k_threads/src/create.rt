@@ -11,8 +11,6 @@ ghost use Rattle.k_threads.specs.Went.{goes_on};
 mod moves;
 mod points;
 mod steps;
-#[cfg(test)]
-mod tests;
 
 use crate::words::done_after;
 use k_ids::{StateWord, ThreadId};

@@ -29,15 +29,8 @@
 
 mod create;
 mod destroy;
-mod hands;
-mod laws;
-#[cfg(test)]
-mod rows;
+mod goods;
 mod words;
 
 pub use create::CreateSection;
 pub use destroy::DestroySection;
-pub use laws::{
-    a_create_takes_locks_in_rising_rank, a_destroy_takes_locks_in_rising_rank,
-    left_is_the_most_that_a_create_makes, left_is_the_most_that_a_destroy_makes,
-};

@@ -1,7 +1,7 @@
 use Rattle.std.proofs.Common.{◌≡◌, true, false, refl, ◌∙◌}
-use Rattle.k_threads.specs.Hands.{unlisted}
+use Rattle.k_threads.specs.Goods.{unlisted}
 use Rattle.k_threads.proofs.Unlisted.{none_unlisted, one_unlisted}
-use Rattle.k_threads.proofs.hands.unlisted.Goals as goal
+use Rattle.k_threads.proofs.goods.unlisted.Goals as goal
 
 pub returns : goal.returns
 returns c =

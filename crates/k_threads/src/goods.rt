@@ -1,6 +1,6 @@
-// What a section does with the guarded data in its hand.
+// What becomes of what a lock guards.
 ghost use Rattle.std.specs.Prelude.{◌≡◌, ◌≤◌, length};
-ghost use Rattle.k_threads.specs.Hands.{unlinked, unlisted, without_first};
+ghost use Rattle.k_threads.specs.Goods.{unlinked, unlisted, without_first};
 
 use k_ids::ThreadId;
 use k_locks::who_of;

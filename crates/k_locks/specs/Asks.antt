@@ -1,6 +1,6 @@
 -- One step of a section on decoded words, without what a lock guards, and what came of it (Herlihy and Wing, *Linearizability*: an
 -- invocation and its response). The step on words as bits, with what moves along, is derived from it.
-use Rattle.std.specs.Prelude.{ℕ, Bool, true, false, Option, Some, None}
+use Rattle.std.specs.Prelude.{ℕ, ◌==◌, Bool, true, false, Option, Some, None}
 use Rattle.k_ids.specs.declared.threads.ThreadId.{ThreadId}
 use Rattle.k_ids.specs.declared.threads.Message.{Message}
 use Rattle.k_ids.specs.declared.state_word.StateWord.{StateWord}
@@ -16,7 +16,7 @@ use Rattle.k_locks.specs.declared.steps.Answer.{Answer}
 use Rattle.k_locks.specs.declared.steps.Answer.TheVariants as answer
 use Rattle.k_locks.specs.declared.steps.Told.{Told}
 use Rattle.k_locks.specs.declared.steps.Told.TheVariants as told
-use Rattle.k_locks.specs.Hands.{Hand, goods_for}
+use Rattle.k_locks.specs.Hands.{Hand, goods_for, without_goods}
 
 -- the words are those of this thread number
 pub data Ask : Type 0 where
@@ -52,6 +52,17 @@ step_for (Acquire l) h = step.Acquire l
 step_for (Release l) h = step.Release l (goods_for l h)
 step_for (Place id program priority) h = step.Place id program priority
 step_for (Remove id) h = step.Remove id
+
+-- What is left in hand once the step is asked for: what a lock guards goes with its release.
+abbrev pub hand_asked : Ask → Hand → Hand
+hand_asked (Release l) h = without_goods l h
+hand_asked (Load number) h = h
+hand_asked (LoadMail number) h = h
+hand_asked (Post number message) h = h
+hand_asked (Exchange number old new) h = h
+hand_asked (Acquire l) h = h
+hand_asked (Place id program priority) h = h
+hand_asked (Remove id) h = h
 
 -- the bits that a load found: those of a message, or of a state word
 abbrev pub loaded : ℕ → Ask → Response
@@ -105,6 +116,10 @@ is_again r = false
 abbrev pub is_lost : Response → Bool
 is_lost (Lost w) = true
 is_lost r = false
+
+-- whether an exchange that expects the second word finds it, where the first is there
+unfoldable pub same_word : StateWord → StateWord → Bool
+same_word found expected = state_bits found == state_bits expected
 
 -- WHAT A SECTION CAN HAVE TO WAIT FOR
 

@@ -1,6 +1,7 @@
 -- What a section has in hand: what the locks that it holds guard.
-use Rattle.std.specs.Prelude.{ℕ, Option, Some, None, List, [], slice_index_or}
-use Rattle.k_ready.specs.Lists.{Ready}
+use Rattle.std.specs.Prelude.{ℕ, Option, Some, None, List, [], ◌∷◌, ◌++◌, slice_index_or}
+use Rattle.k_ids.specs.declared.threads.ThreadId.{ThreadId}
+use Rattle.k_ready.specs.Lists.{Ready, list_of, with_list}
 use Rattle.k_senders.specs.Queue.{Queue}
 use Rattle.k_locks.specs.Numbers.{ThreadNumbers}
 use Rattle.k_locks.specs.declared.locks.Lock.{Lock}
@@ -50,6 +51,15 @@ without_goods lock.Ready h = record h { lists = no_lists }
 abbrev pub hand_with : Answer → Hand → Hand
 hand_with (answer.Got goods) h = with_goods goods h
 hand_with (answer.Told t) h = h
+
+-- The goods that come with an answer; where none come, they are of no use.
+abbrev pub goods_in : Answer → Goods
+goods_in (answer.Got goods) = goods
+goods_in (answer.Told t) = goods.Senders no_queue
+
+-- A thread is put to the end of the list of its priority.
+abbrev pub pushed : ThreadId → ℕ → Ready → Ready
+pushed id priority lists = with_list lists priority (list_of lists.lists priority ++ id ∷ [])
 
 -- WHAT THE LOCKS HELD LEAVE IN HAND
 

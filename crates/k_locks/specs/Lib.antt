@@ -6,6 +6,6 @@ pub mod Hands
 pub mod Tables
 pub mod Points
 pub mod Places
-pub mod Entries
+pub mod Queues
 pub mod Shown
 pub mod Threads

@@ -18,6 +18,8 @@ use Rattle.k_locks.specs.declared.steps.Answer.TheVariants as answer
 use Rattle.k_locks.specs.declared.steps.Told.{Told}
 use Rattle.k_locks.specs.declared.steps.Told.TheVariants as told
 use Rattle.k_locks.specs.Locks.{guards}
+use Rattle.k_locks.specs.declared.steps.Went.{Went}
+use Rattle.k_locks.specs.declared.steps.Went.TheVariants as went
 
 -- THE WORD
 
@@ -152,3 +154,13 @@ is_again (answer.Told t) = is_again_told t
 -- the count of steps with one more; it stays at the end of its type
 abbrev pub one_more : ℕ → ℕ
 one_more n = min (n + 1) (2 ^ 32 - 1)
+
+-- whether the section has a next step
+abbrev pub goes_on : Went → Bool
+goes_on went.On = true
+goes_on went.Again = true
+goes_on (went.Pushed priority) = true
+goes_on went.Waits = false
+goes_on (went.Ends reply) = false
+goes_on went.CallerDead = false
+goes_on went.Picks = false

@@ -19,6 +19,7 @@
 #![tactic(auto)]
 
 mod goods;
+mod laws;
 mod locks;
 mod numbers;
 mod points;
@@ -27,12 +28,16 @@ mod steps;
 mod threads;
 
 pub use goods::Goods;
+pub use laws::{
+    a_queue_is_parted, an_answer_is_a_response, an_exchange_is_of_words, places_are_apart,
+    the_lowest_is_held,
+};
 pub use locks::{Lock, WordName, rank};
 pub use numbers::Numbers;
 pub use points::Point;
 pub use shown::{found_in, is_dead, is_present_in, shows, state_word, takes_from};
 pub use steps::{Answer, Step, Told, Went, one_more};
-pub use threads::{admits, is_same, who_of};
+pub use threads::{admits, is_same};
 
 #[cfg(test)]
 mod tests;

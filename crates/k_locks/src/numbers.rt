@@ -57,7 +57,7 @@ impl Numbers {
         ensures free { IfSome result (λ number. is_free self.now number ≡ true) }
         ensures inside { IfSome result (λ number. number < length self.now.versions) }
     {
-        for number in 0..self.count {
+        for number in 0..self.count() {
             if self.is_free(number) {
                 return Some(number);
             }
@@ -71,7 +71,7 @@ impl Numbers {
         ensures few { result ≤ 64 }
     {
         let mut alive = 0;
-        for number in 0..self.count {
+        for number in 0..self.count() {
             if self.is_present(number) {
                 alive += 1;
             }
@@ -85,7 +85,7 @@ impl Numbers {
         ensures few { result ≤ 64 }
     {
         let mut worn = 0;
-        for number in 0..self.count {
+        for number in 0..self.count() {
             if self.is_worn(number) {
                 worn += 1;
             }

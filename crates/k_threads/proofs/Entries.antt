@@ -3,7 +3,7 @@ use Rattle.std.proofs.Common.{◌≡◌, ◌<◌, ℕ, refl, true, List, [], ◌
 use Rattle.std.proofs.lemmas.Grind.{common_steps}
 use Rattle.k_senders.specs.declared.entries.SenderEntry.{SenderEntry}
 use Rattle.k_senders.specs.Queue.{first_number, stands, without}
-use Rattle.k_threads.specs.Hands.{rest}
+use Rattle.k_threads.specs.Goods.{rest}
 
 pub first_stands : (n : ℕ) (es : List SenderEntry) → first_number es ≡ Some n → stands n es ≡ true
 first_stands n [] e = absurd cc

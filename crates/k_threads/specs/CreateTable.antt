@@ -5,7 +5,7 @@
 -- It holds the table lock from its first step to its last. The context of the new thread is placed before the thread's word
 -- says that it runs. `own` is the caller's state word as the section knows it, `h` is what is in hand, and `id` the thread that
 -- is made. The locations, their order and their lengths are this project's own.
-use Rattle.std.specs.Prelude.{ℕ, ◌+◌, ◌-◌, ◌<◌, ◌≤◌, ◌≡◌, ◌^◌, Bool, true, false, if◌then◌else◌, List, Option, Some, None}
+use Rattle.std.specs.Prelude.{ℕ, ◌+◌, ◌-◌, ◌<◌, ◌≤◌, ◌≡◌, ◌^◌, Bool, true, false, if◌then◌else◌, List, length, Option, Some, None}
 use Rattle.k_ids.specs.declared.threads.ThreadId.{ThreadId}
 use Rattle.k_ids.specs.declared.calls.Phase.TheVariants as phase
 use Rattle.k_ids.specs.declared.calls.Reply.TheVariants as reply
@@ -26,7 +26,7 @@ use Rattle.k_locks.specs.declared.steps.Went.{Went}
 use Rattle.k_locks.specs.declared.steps.Went.TheVariants as went
 use Rattle.k_locks.specs.Asks.{Ask, Response, step_for, response_of}
 use Rattle.k_locks.specs.Asks as plain
-use Rattle.k_locks.specs.Hands.{Hand, nothing, no_lists, no_queue, hand_with}
+use Rattle.k_locks.specs.Hands.{Hand, nothing, no_lists, no_queue, hand_with, pushed}
 use Rattle.k_locks.specs.Numbers.{ThreadNumbers, alive, lowest_free, version_at, with_thread, worn}
 use Rattle.k_locks.specs.Shown.{is_dead}
 use Rattle.k_locks.specs.Threads.{IsThread}
@@ -42,7 +42,7 @@ use Rattle.k_threads.specs.declared.create.CreatePushing.TheVariants.{PushCreate
 use Rattle.k_threads.specs.declared.create.CreateLocation.{CreateLocation}
 use Rattle.k_threads.specs.declared.create.CreateLocation.TheVariants as location
 use Rattle.k_threads.specs.declared.create.CreateSection.{CreateSection}
-use Rattle.k_threads.specs.Goods.{no_lock, only_table, pushed, table_and_ready}
+use Rattle.k_threads.specs.Goods.{no_lock, only_table, table_and_ready}
 use Rattle.k_threads.specs.Words.{created_word, dead_word, done_after}
 use Rattle.k_threads.specs.Went.{makes, went_on}
 
@@ -251,6 +251,7 @@ can_ask (location.NumbersReturned r) = false
 -- the thread that is made has a number that may get it, in the next version
 pub record IsNext (id : ThreadId) (numbers : ThreadNumbers) : Type 0 where
   pub number : id.number < 64
+  pub inside : id.number < length numbers.versions
   pub next : version_at numbers id.number + 1 ≡ id.version
   pub version : id.version < 2 ^ 20
 

@@ -34,7 +34,7 @@ use Rattle.k_locks.specs.declared.steps.Went.{Went}
 use Rattle.k_locks.specs.declared.steps.Went.TheVariants as went
 use Rattle.k_locks.specs.Asks.{Ask, Response, step_for, response_of}
 use Rattle.k_locks.specs.Asks as plain
-use Rattle.k_locks.specs.Hands.{Hand, nothing, no_lists, no_queue, hand_with}
+use Rattle.k_locks.specs.Hands.{Hand, nothing, no_lists, no_queue, hand_with, pushed}
 use Rattle.k_locks.specs.Numbers.{ThreadNumbers, without_thread}
 use Rattle.k_locks.specs.Shown.{found_in, is_dead, is_present_in}
 use Rattle.k_locks.specs.Threads.{IsThread}
@@ -56,7 +56,7 @@ use Rattle.k_threads.specs.declared.destroy.DestroyReturned.TheVariants as retur
 use Rattle.k_threads.specs.declared.destroy.DestroyLocation.{DestroyLocation}
 use Rattle.k_threads.specs.declared.destroy.DestroyLocation.TheVariants as location
 use Rattle.k_threads.specs.declared.destroy.DestroySection.{DestroySection}
-use Rattle.k_threads.specs.Goods.{all_three, no_lock, only_table, pushed, rest, table_and_ready, table_and_thread, unlinked, unlisted, without_first}
+use Rattle.k_threads.specs.Goods.{all_three, no_lock, only_table, rest, table_and_ready, table_and_thread, unlinked, unlisted, without_first}
 use Rattle.k_threads.specs.Words.{dead_word, done_after, freed_word, is_receiving_from, thread_at}
 use Rattle.k_threads.specs.Went.{makes, went_on}
 
@@ -479,9 +479,9 @@ can_ask (location.Pushing p numbers queue lists) = true
 can_ask (location.Returned r) = false
 
 -- one that waits for the victim has one of so many numbers, and the loaded word is one of a thread
-pub record IsWaiter (count number : ℕ) (seen : StateWord) : Type 0 where
-  pub number : number < count
-  pub seen : IsThread seen
+pub record IsWaiter (count who : ℕ) (word : StateWord) : Type 0 where
+  pub number : who < count
+  pub seen : IsThread word
 
 abbrev pub IsSoundLocked : DestroyCall → DestroyLocked → Type 0
 IsSoundLocked c (AcquireVisitedLock visited) = visited < c.count

@@ -1,16 +1,12 @@
 -- What becomes of what a lock guards, and the locks that a create or a destroy holds.
-use Rattle.std.specs.Prelude.{ℕ, List, [], ◌∷◌, ◌++◌, if◌then◌else◌, Option, Some, None, map}
+use Rattle.std.specs.Prelude.{ℕ, List, [], ◌∷◌, if◌then◌else◌, Option, Some, None, map}
 use Rattle.k_ids.specs.declared.threads.ThreadId.{ThreadId}
-use Rattle.k_ready.specs.Lists.{Ready, has_thread, list_of, with_list, without}
+use Rattle.k_ready.specs.Lists.{Ready, has_thread, without}
 use Rattle.k_senders.specs.declared.entries.SenderEntry.{SenderEntry}
+use Rattle.k_senders.specs.Entries.{who_of}
 use Rattle.k_senders.specs.Queue.{Queue, without_thread}
 use Rattle.k_locks.specs.declared.locks.Lock.{Lock}
 use Rattle.k_locks.specs.declared.locks.Lock.TheVariants as lock
-use Rattle.k_locks.specs.Threads.{who_of}
-
--- A thread is put to the end of the list of its priority.
-abbrev pub pushed : ThreadId → ℕ → Ready → Ready
-pushed id priority r = with_list r priority (list_of r.lists priority ++ id ∷ [])
 
 -- A thread that stands in a list is taken out.
 abbrev pub without_it : ThreadId → List ThreadId → List ThreadId

@@ -9,16 +9,6 @@ use Rattle.k_locks.specs.Steps.{is_again, suits}
 abbrev pub went_on : Answer → Went
 went_on a = if is_again a then went.Again else went.On
 
--- whether the section has a next step
-abbrev pub goes_on : Went → Bool
-goes_on went.On = true
-goes_on went.Again = true
-goes_on (went.Pushed priority) = true
-goes_on went.Waits = false
-goes_on (went.Ends reply) = false
-goes_on went.CallerDead = false
-goes_on went.Picks = false
-
 -- an answer that makes a step: the step can have it, and isn't asked for again
 abbrev pub makes : Step → Answer → Bool
 makes s a = suits s a && not (is_again a)

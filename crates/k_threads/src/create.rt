@@ -1,12 +1,10 @@
 // The section that creates a thread.
 ghost use Rattle.std.specs.Prelude.{◌≡◌, ◌<◌, true};
 ghost use Rattle.k_ids.specs.StateWords.{IsPartner, state_word_of};
-ghost use Rattle.k_locks.specs.Asks.{response_of};
-ghost use Rattle.k_locks.specs.Hands.{hand_asked};
-ghost use Rattle.k_locks.specs.Steps.{suits};
+ghost use Rattle.k_locks.specs.Asks.{hand_asked};
+ghost use Rattle.k_locks.specs.Steps.{goes_on, suits};
 ghost use Rattle.k_locks.specs.Threads.{IsRunOf};
-ghost use Rattle.k_threads.specs.CreateTable.{CanPush, IsFit, IsSound, ask_of, asked, at_of, can_ask, create_of, hand_of, is_open, left_of, left_table, locks_of, points, response_at, resumed, step_of, went_of};
-ghost use Rattle.k_threads.specs.Went.{goes_on};
+ghost use Rattle.k_threads.specs.CreateTable.{CanPush, IsFit, IsSound, ask_of, asked, at_of, can_ask, create_of, hand_of, is_open, left_of, left_table, locks_of, resumed, step_of, went_of};
 
 mod moves;
 mod points;

@@ -4,11 +4,10 @@ ghost use Rattle.k_ids.specs.StateWords.{IsPartner, state_word_of};
 ghost use Rattle.k_locks.specs.declared.goods.Goods.TheVariants as goods;
 ghost use Rattle.k_locks.specs.declared.locks.Lock.TheVariants as lock;
 ghost use Rattle.k_locks.specs.declared.steps.Step.TheVariants as step;
-ghost use Rattle.k_locks.specs.Hands.{hand_asked};
-ghost use Rattle.k_locks.specs.Steps.{suits};
+ghost use Rattle.k_locks.specs.Asks.{hand_asked};
+ghost use Rattle.k_locks.specs.Steps.{goes_on, suits};
 ghost use Rattle.k_locks.specs.Threads.{IsRunOf};
 ghost use Rattle.k_threads.specs.DestroyTable.{CanPush, IsFit, IsSound, ReleaseVictimLock, Victim, ask_of, asked, at_of, can_ask, destroy_of, hand_of, is_open, left_of, locks_of, resumed, step_of, went_of};
-ghost use Rattle.k_threads.specs.Went.{goes_on};
 
 mod counts;
 mod moves;

@@ -3,9 +3,8 @@ ghost use Rattle.std.specs.Prelude.{◌≡◌, ◌≤◌, length};
 ghost use Rattle.k_threads.specs.Goods.{unlinked, unlisted, without_first};
 
 use k_ids::ThreadId;
-use k_locks::who_of;
 use k_ready::ReadyLists;
-use k_senders::Senders;
+use k_senders::{Senders, who_of};
 
 /// How many entries a queue has.
 pub fn entries(senders: &Senders) -> u32

@@ -2,10 +2,10 @@
 ghost use Rattle.std.specs.Prelude.{if◌then◌else◌, ◌≡◌};
 ghost use Rattle.k_ids.specs.declared.state_word.StateWord.{StateWord};
 ghost use Rattle.k_ids.specs.StateWords.{IsStateSpelling, state_word_of};
-ghost use Rattle.k_locks.specs.Hands.{no_lists, no_queue};
+ghost use Rattle.k_locks.specs.Hands.{Hand, no_lists, no_queue};
 ghost use Rattle.k_locks.specs.Numbers.{lowest_free};
 ghost use Rattle.k_locks.specs.Shown.{is_dead};
-ghost use Rattle.k_threads.specs.CreateTable.{IsFit, IsSoundLocation, IsSoundLocked, Locked, at_of, choose, hand_of, released_end, resumed_location, went_of};
+ghost use Rattle.k_threads.specs.CreateTable.{IsFit, IsSoundLocation, IsSoundLocked, Locked, Outside, at_of, choose, hand_of, released_end, resumed_location, went_of};
 
 use crate::create::{
     CreateCall, CreateLocation, CreateLocked, CreateOutside, CreatePushing, CreateRelease,
@@ -115,6 +115,7 @@ fn after_load(bits: u64, numbers: &Numbers) -> CreateLocked
     if is_dead(&state_word(bits)) {
         return CreateLocked::Release(CreateRelease::Dead);
     }
+    numbers.count();
     match numbers.lowest_free() {
         Some(number) => CreateLocked::PlaceContext(ThreadId {
             number,

@@ -2,10 +2,12 @@
 ghost use Rattle.std.specs.Prelude.{if◌then◌else◌, ◌≡◌, ◌≤◌, ◌<◌};
 ghost use Rattle.k_ids.specs.declared.state_word.StateWord.{StateWord};
 ghost use Rattle.k_ids.specs.StateWords.{IsStateSpelling, IsStateWord, state_word_of};
+ghost use Rattle.k_ready.specs.Lists.{Ready};
+ghost use Rattle.k_senders.specs.Queue.{Queue};
 ghost use Rattle.k_locks.specs.declared.steps.Answer.TheVariants as answer;
 ghost use Rattle.k_locks.specs.Hands.{Hand, no_lists, no_queue};
 ghost use Rattle.k_locks.specs.Shown.{is_dead};
-ghost use Rattle.k_threads.specs.DestroyTable.{IsFit, IsSoundCall, IsSoundLocation, IsSoundLocked, IsSoundPushing, IsSoundReturned, IsSoundVictim, IsSoundVisit, IsWaiter, Locked, Outside, Pushing, Victim, Visit, after_victim, after_visited, alive_or_dead, at_of, free_first, hand_of, released_end, resumed_location, returned_at, returned_hand, visit_from, went_of};
+ghost use Rattle.k_threads.specs.DestroyTable.{IsFit, IsSoundCall, IsSoundLocation, IsSoundLocked, IsSoundPushing, IsSoundReturned, IsSoundVictim, IsSoundVisit, IsWaiter, Locked, Outside, Pushing, UnlistVictim, Victim, Visit, after_victim, after_visited, alive_or_dead, at_of, free_first, hand_of, released_end, resumed_location, returned_at, returned_hand, visit_from, went_of};
 ghost use Rattle.k_threads.specs.Goods.{without_first};
 
 use crate::destroy::{

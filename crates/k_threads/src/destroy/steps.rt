@@ -3,10 +3,9 @@ ghost use Rattle.std.specs.Prelude.{◌≡◌, ◌<◌, true};
 ghost use Rattle.k_ids.specs.declared.state_word.StateWord.{StateWord};
 ghost use Rattle.k_ids.specs.StateWords.{state_bits};
 ghost use Rattle.k_ready.specs.Lists.{IsInNone};
-ghost use Rattle.k_locks.specs.Hands.{Hand, no_lists, no_queue};
+ghost use Rattle.k_locks.specs.Hands.{Hand, no_lists, no_queue, pushed};
 ghost use Rattle.k_locks.specs.Threads.{IsThread};
 ghost use Rattle.k_threads.specs.DestroyTable.{CanPush, IsSoundCall, IsSoundLocation, IsSoundLocked, IsSoundVictim, IsSoundVisit, Locked, Outside, Victim, Visit, asked_location, asked_locked, asked_victim, asked_visit, at_of, can_ask, hand_of, step_at};
-ghost use Rattle.k_threads.specs.Goods.{pushed};
 ghost use Rattle.k_threads.specs.Words.{freed_word, thread_at};
 
 use crate::destroy::{

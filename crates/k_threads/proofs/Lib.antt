@@ -1,2 +1,9 @@
 mod Entries
 mod Unlisted
+mod Held
+mod Steps
+mod CreateLaws
+mod DestroyLaws
+mod CreateRuns
+mod DestroyRuns
+mod DestroyBound

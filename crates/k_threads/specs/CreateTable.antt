@@ -29,6 +29,7 @@ use Rattle.k_locks.specs.Asks as plain
 use Rattle.k_locks.specs.Hands.{Hand, nothing, no_lists, no_queue, hand_with, pushed}
 use Rattle.k_locks.specs.Numbers.{ThreadNumbers, alive, lowest_free, version_at, with_thread, worn}
 use Rattle.k_locks.specs.Shown.{is_dead}
+use Rattle.k_locks.specs.Tables.{Table}
 use Rattle.k_locks.specs.Threads.{IsThread}
 use Rattle.k_threads.specs.declared.create.CreateCall.{CreateCall}
 use Rattle.k_threads.specs.declared.create.CreateOutside.{CreateOutside}
@@ -37,8 +38,6 @@ use Rattle.k_threads.specs.declared.create.CreateLocked.{CreateLocked}
 use Rattle.k_threads.specs.declared.create.CreateLocked.TheVariants.{LoadCaller, PlaceContext, CommitCreate, AcquireReady, Release}
 use Rattle.k_threads.specs.declared.create.CreateRelease.{CreateRelease}
 use Rattle.k_threads.specs.declared.create.CreateRelease.TheVariants as release
-use Rattle.k_threads.specs.declared.create.CreatePushing.{CreatePushing}
-use Rattle.k_threads.specs.declared.create.CreatePushing.TheVariants.{PushCreated}
 use Rattle.k_threads.specs.declared.create.CreateLocation.{CreateLocation}
 use Rattle.k_threads.specs.declared.create.CreateLocation.TheVariants as location
 use Rattle.k_threads.specs.declared.create.CreateSection.{CreateSection}
@@ -50,7 +49,7 @@ use Rattle.k_threads.specs.Went.{makes, went_on}
 pub data CreateAt : Type 0 where
   Outside : CreateOutside → CreateAt  -- no lock
   Locked : CreateLocked → CreateAt  -- the table lock
-  Pushing : CreatePushing → CreateAt  -- the table lock and the ready lock
+  PushCreated : (id : ThreadId) → CreateAt  -- the table lock and the ready lock, which it releases
 
 -- THE STEP
 
@@ -60,7 +59,7 @@ ask_of c own (Locked LoadCaller) = plain.Load c.caller.number
 ask_of c own (Locked (PlaceContext id)) = plain.Place id c.program c.priority
 ask_of c own (Locked (CommitCreate id)) = plain.Exchange id.number (dead_word (id.version - 1)) (created_word id.version c.priority)
 ask_of c own (Locked (AcquireReady id)) = plain.Acquire lock.Ready
-ask_of c own (Pushing (PushCreated id)) = plain.Release lock.Ready
+ask_of c own (PushCreated id) = plain.Release lock.Ready
 ask_of c own (Locked (Release r)) = plain.Release lock.Table
 ask_of c own (Outside (Ended w)) = plain.Load c.caller.number  -- a section that is over isn't asked
 
@@ -81,14 +80,14 @@ leads c h (Outside AcquireTable) plain.Got = Locked LoadCaller
 leads c h (Locked LoadCaller) (plain.Word w) = Locked (if is_dead w then Release release.Dead else choose h.numbers (lowest_free h.numbers))
 leads c h (Locked (PlaceContext id)) plain.Placed = Locked (CommitCreate id)
 leads c h (Locked (CommitCreate id)) plain.Won = Locked (AcquireReady id)  -- it is never lost
-leads c h (Locked (AcquireReady id)) plain.Got = Pushing (PushCreated id)
-leads c h (Pushing (PushCreated id)) plain.Released = Locked (Release (release.Made id))
+leads c h (Locked (AcquireReady id)) plain.Got = PushCreated id
+leads c h (PushCreated id) plain.Released = Locked (Release (release.Made id))
 leads c h (Locked (Release r)) plain.Released = Outside (Ended (released_end r))
 leads c h p r = p  -- a lock is owned: the same step again
 
 -- What becomes of what is in hand, also of what goes home in a release.
 abbrev pub hand_after : CreateCall → Hand → CreateAt → Response → Hand
-hand_after c h (Pushing (PushCreated id)) plain.Released = record h { lists = pushed id c.priority h.lists }
+hand_after c h (PushCreated id) plain.Released = record h { lists = pushed id c.priority h.lists }
 hand_after c h (Locked (Release (release.Made id))) plain.Released = record h { numbers = with_thread id.number h.numbers }
 hand_after c h p r = h
 
@@ -98,7 +97,7 @@ own_of c own p r = own
 
 -- How the section goes on: a push is told; and where the section comes to its end, that is told.
 abbrev pub pushed_at : CreateCall → CreateAt → Option ℕ
-pushed_at c (Pushing (PushCreated id)) = Some c.priority
+pushed_at c (PushCreated id) = Some c.priority
 pushed_at c (Locked p) = None
 pushed_at c (Outside p) = None
 
@@ -106,7 +105,7 @@ abbrev pub end_at : CreateAt → Went
 end_at (Outside (Ended w)) = w
 end_at (Outside AcquireTable) = went.On
 end_at (Locked p) = went.On
-end_at (Pushing p) = went.On
+end_at (PushCreated id) = went.On
 
 -- THE LINEARIZATION POINT
 
@@ -130,7 +129,7 @@ points caller c h p r = None
 abbrev pub locks_of : CreateCall → CreateAt → List (Option Lock)
 locks_of c (Outside p) = no_lock
 locks_of c (Locked p) = only_table
-locks_of c (Pushing p) = table_and_ready
+locks_of c (PushCreated id) = table_and_ready
 
 -- How many steps are left until the table lock is released, that release included.
 abbrev pub left_table : CreateAt → ℕ
@@ -138,13 +137,13 @@ left_table (Locked LoadCaller) = 6
 left_table (Locked (PlaceContext id)) = 5
 left_table (Locked (CommitCreate id)) = 4
 left_table (Locked (AcquireReady id)) = 3
-left_table (Pushing (PushCreated id)) = 2
+left_table (PushCreated id) = 2
 left_table (Locked (Release r)) = 1
 left_table (Outside p) = 0
 
 -- the same for the ready lock
 abbrev pub left_ready : CreateAt → ℕ
-left_ready (Pushing (PushCreated id)) = 1
+left_ready (PushCreated id) = 1
 left_ready (Locked p) = 0
 left_ready (Outside p) = 0
 
@@ -162,21 +161,21 @@ rest_of c h there p k = left_of c h p k
 abbrev pub at_of : CreateLocation → CreateAt
 at_of (location.Outside p) = Outside p
 at_of (location.Locked p numbers) = Locked p
-at_of (location.Pushing p numbers lists) = Pushing p
-at_of (location.ListsReturned p numbers) = Pushing p
+at_of (location.PushCreated id numbers lists) = PushCreated id
+at_of (location.ListsReturned id numbers) = PushCreated id
 at_of (location.NumbersReturned r) = Locked (Release r)
 
 abbrev pub hand_of : CreateLocation → Hand
 hand_of (location.Outside p) = nothing
 hand_of (location.Locked p numbers) = record { numbers = numbers; queue = no_queue; lists = no_lists }
-hand_of (location.Pushing p numbers lists) = record { numbers = numbers; queue = no_queue; lists = lists }
-hand_of (location.ListsReturned p numbers) = record { numbers = numbers; queue = no_queue; lists = no_lists }
+hand_of (location.PushCreated id numbers lists) = record { numbers = numbers; queue = no_queue; lists = lists }
+hand_of (location.ListsReturned id numbers) = record { numbers = numbers; queue = no_queue; lists = no_lists }
 hand_of (location.NumbersReturned r) = nothing
 
 abbrev pub location_with : Hand → CreateAt → CreateLocation
 location_with h (Outside p) = location.Outside p
 location_with h (Locked p) = location.Locked p h.numbers
-location_with h (Pushing p) = location.Pushing p h.numbers h.lists
+location_with h (PushCreated id) = location.PushCreated id h.numbers h.lists
 
 -- What is left in the section once it is asked for its step: what a release puts back has gone.
 abbrev pub asked_locked : CreateLocked → ThreadNumbers → CreateLocation
@@ -189,8 +188,8 @@ asked_locked (AcquireReady id) numbers = location.Locked (AcquireReady id) numbe
 abbrev pub asked_location : CreateLocation → CreateLocation
 asked_location (location.Outside p) = location.Outside p
 asked_location (location.Locked p numbers) = asked_locked p numbers
-asked_location (location.Pushing p numbers lists) = location.ListsReturned p numbers
-asked_location (location.ListsReturned p numbers) = location.ListsReturned p numbers
+asked_location (location.PushCreated id numbers lists) = location.ListsReturned id numbers
+asked_location (location.ListsReturned id numbers) = location.ListsReturned id numbers
 asked_location (location.NumbersReturned r) = location.NumbersReturned r
 
 -- A section at its first location.
@@ -238,14 +237,14 @@ abbrev pub is_open : CreateAt → Bool
 is_open (Outside AcquireTable) = true
 is_open (Outside (Ended w)) = false
 is_open (Locked p) = true
-is_open (Pushing p) = true
+is_open (PushCreated id) = true
 
 -- its step can be asked for: it isn't over, and the step before was answered
 abbrev pub can_ask : CreateLocation → Bool
 can_ask (location.Outside p) = is_open (Outside p)
 can_ask (location.Locked p numbers) = true
-can_ask (location.Pushing p numbers lists) = true
-can_ask (location.ListsReturned p numbers) = false
+can_ask (location.PushCreated id numbers lists) = true
+can_ask (location.ListsReturned id numbers) = false
 can_ask (location.NumbersReturned r) = false
 
 -- the thread that is made has a number that may get it, in the next version
@@ -270,8 +269,8 @@ IsSoundLocked (Release r) numbers = IsSoundRelease r numbers
 abbrev pub IsSoundLocation : CreateLocation → Type 0
 IsSoundLocation (location.Outside p) = Unit {0}
 IsSoundLocation (location.Locked p numbers) = IsSoundLocked p numbers
-IsSoundLocation (location.Pushing (PushCreated id) numbers lists) = IsNext id numbers
-IsSoundLocation (location.ListsReturned (PushCreated id) numbers) = IsNext id numbers
+IsSoundLocation (location.PushCreated id numbers lists) = IsNext id numbers
+IsSoundLocation (location.ListsReturned id numbers) = IsNext id numbers
 IsSoundLocation (location.NumbersReturned r) = Unit {0}
 
 -- The section can be asked and answered: its priority is in the range, and what it has in hand is what its location needs.
@@ -282,10 +281,34 @@ pub record IsSound (s : CreateSection) : Type 0 where
 
 -- the thread that is pushed stands in no ready list
 abbrev pub CanPush : CreateCall → Hand → CreateAt → Type 0
-CanPush c h (Pushing (PushCreated id)) = IsInNone id.number h.lists.lists
+CanPush c h (PushCreated id) = IsInNone id.number h.lists.lists
 CanPush c h p = Unit {0}
 
 -- a loaded state word is a spelling
 abbrev pub IsFit : CreateAt → Answer → Type 0
 IsFit (Locked LoadCaller) (answer.Told (told.Loaded bits)) = IsStateSpelling bits
 IsFit p a = Unit {0}
+
+-- WHAT IS CLAIMED OF IT, in the words of any table
+
+-- an exchange of a create is never lost
+abbrev pub IsNotLost : Response → Type 0
+IsNotLost (plain.Lost w) = ⊥
+IsNotLost r = Unit {0}
+
+abbrev pub create_table : CreateCall → Table CreateAt
+create_table c = record {
+  first = Outside AcquireTable;
+  ask = ask_of c;
+  leads = leads c;
+  hand = hand_after c;
+  own = own_of c;
+  locks = locks_of c;
+  left = left_of c;
+  stays = λ p. false;
+  counted = λ p. 0;
+  rest = rest_of c;
+  seen = λ p. None;
+  Allows = λ h p r. IsNotLost r;
+  Fits = λ h p. Unit {0};
+}

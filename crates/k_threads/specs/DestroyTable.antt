@@ -9,7 +9,7 @@
 --
 -- `own` is the caller's state word as the section knows it, and `h` is what is in hand. `sender` is the number of the first entry
 -- of the victim's queue, `visited` a number that isn't the victim's, and `seen` the word that was loaded of the thread.
-use Rattle.std.specs.Prelude.{ℕ, ◌+◌, ◌-◌, ◌*◌, ◌==◌, ◌<◌, ◌≤◌, ◌≡◌, nat_lt, Bool, true, false, length, if◌then◌else◌, List, [], Option, Some, None}
+use Rattle.std.specs.Prelude.{ℕ, ◌+◌, ◌-◌, ◌*◌, ◌==◌, ◌<◌, ◌≤◌, ◌≡◌, ◌≢◌, nat_lt, Bool, true, false, length, if◌then◌else◌, List, [], Option, Some, None}
 use Rattle.k_ids.specs.declared.threads.ThreadId.{ThreadId}
 use Rattle.k_ids.specs.declared.threads.Found.{Found}
 use Rattle.k_ids.specs.declared.calls.Phase.TheVariants as phase
@@ -37,6 +37,7 @@ use Rattle.k_locks.specs.Asks as plain
 use Rattle.k_locks.specs.Hands.{Hand, nothing, no_lists, no_queue, hand_with, pushed}
 use Rattle.k_locks.specs.Numbers.{ThreadNumbers, without_thread}
 use Rattle.k_locks.specs.Shown.{found_in, is_dead, is_present_in}
+use Rattle.k_locks.specs.Tables.{Table}
 use Rattle.k_locks.specs.Threads.{IsThread}
 use Rattle.k_threads.specs.declared.destroy.DestroyCall.{DestroyCall}
 use Rattle.k_threads.specs.declared.destroy.DestroyOutside.{DestroyOutside}
@@ -335,10 +336,6 @@ rest_of c h there p lock.Table = rest_table c h there p
 rest_of c h there p (lock.Thread number) = if locks_thread c p number then rest_thread h there p else 0
 rest_of c h there p lock.Ready = left_ready p
 
--- `left_of` takes it that the loaded word isn't there any more.
-abbrev pub stays : DestroyAt → Bool
-stays p = false
-
 -- how many lost exchanges `left_of` counts: the one of this location
 abbrev pub counted : DestroyAt → ℕ
 counted (Victim (CommitKill seen)) = 1
@@ -543,3 +540,44 @@ abbrev pub IsFit : DestroyAt → Answer → Type 0
 IsFit (Victim (LoadSender sender)) (answer.Told (told.Loaded bits)) = IsStateSpelling bits × (1 ≤ (state_word_of bits).version)
 IsFit p (answer.Told (told.Loaded bits)) = IsStateSpelling bits
 IsFit p a = Unit {0}
+
+-- WHAT IS CLAIMED OF IT, in the words of any table
+
+-- a queue has fewer entries than the table has numbers
+abbrev pub IsShort : DestroyCall → Hand → DestroyAt → Response → Type 0
+IsShort c h (Locked AcquireVictimLock) plain.Got = in_queue h < c.count
+IsShort c h p r = Unit {0}
+
+-- a number of the table, and not the victim's
+pub record IsOther (c : DestroyCall) (visited : ℕ) : Type 0 where
+  pub inside : visited < c.count
+  pub other : visited ≢ c.who.number
+
+-- What the counts rest on: the queue in hand has the entry of the sender that is freed, and the visited number isn't the victim's.
+abbrev pub Fits : DestroyCall → Hand → DestroyAt → Type 0
+Fits c h (Victim (LoadSender sender)) = 1 ≤ in_queue h
+Fits c h (Victim (FreeSender sender seen)) = 1 ≤ in_queue h
+Fits c h (Victim (AcquireReadyForSender sender seen)) = 1 ≤ in_queue h
+Fits c h (Pushing (PushSender sender seen)) = 1 ≤ in_queue h
+Fits c h (Locked (AcquireVisitedLock visited)) = IsOther c visited
+Fits c h (Visit p) = IsOther c (visited_at p)
+Fits c h (Pushing (PushVisited visited seen)) = IsOther c visited
+Fits c h p = Unit {0}
+
+-- `left_of` takes it that the loaded word isn't there any more.
+abbrev pub destroy_table : DestroyCall → Table DestroyAt
+destroy_table c = record {
+  first = first_of c;
+  ask = ask_of c;
+  leads = leads c;
+  hand = hand_after c;
+  own = own_of c;
+  locks = locks_of c;
+  left = left_of c;
+  stays = λ p. false;
+  counted = counted;
+  rest = rest_of c;
+  seen = seen_at c;
+  Allows = IsShort c;
+  Fits = Fits c;
+}

@@ -52,20 +52,15 @@ pub enum CreateRelease {
     Dead,
 }
 
-/// The locations of a create at which it holds the ready lock too.
-#[derive(Clone, Copy)]
-pub enum CreatePushing {
-    PushCreated(ThreadId),
-}
-
 /// The location of a create, with what is in hand.
 #[derive(Drop)]
 pub enum CreateLocation {
     Outside(CreateOutside),
     Locked(CreateLocked, Numbers),
-    Pushing(CreatePushing, Numbers, ReadyLists),
-    /// The step of this location was asked for, and the ready lists went with it.
-    ListsReturned(CreatePushing, Numbers),
+    /// It puts the new thread into the ready lists.
+    PushCreated(ThreadId, Numbers, ReadyLists),
+    /// That step was asked for, and the ready lists went with it.
+    ListsReturned(ThreadId, Numbers),
     /// The step of this location was asked for, and the thread numbers went with it.
     NumbersReturned(CreateRelease),
 }
@@ -152,7 +147,7 @@ impl CreateSection {
             CreateLocation::Locked(_, _) | CreateLocation::NumbersReturned(_) => {
                 [Some(Lock::Table), None, None]
             }
-            CreateLocation::Pushing(_, _, _) | CreateLocation::ListsReturned(_, _) => {
+            CreateLocation::PushCreated(_, _, _) | CreateLocation::ListsReturned(_, _) => {
                 [Some(Lock::Table), None, Some(Lock::Ready)]
             }
         }
@@ -166,7 +161,7 @@ impl CreateSection {
             Lock::Table => left_table(&self.location),
             Lock::Thread(_) => 0,
             Lock::Ready => match self.location {
-                CreateLocation::Pushing(_, _, _) | CreateLocation::ListsReturned(_, _) => 1,
+                CreateLocation::PushCreated(_, _, _) | CreateLocation::ListsReturned(_, _) => 1,
                 CreateLocation::Outside(_)
                 | CreateLocation::Locked(_, _)
                 | CreateLocation::NumbersReturned(_) => 0,
@@ -201,7 +196,7 @@ fn left_table(location: &CreateLocation) -> u32
             CreateLocked::AcquireReady(_) => 3,
             CreateLocked::Release(_) => 1,
         },
-        CreateLocation::Pushing(_, _, _) | CreateLocation::ListsReturned(_, _) => 2,
+        CreateLocation::PushCreated(_, _, _) | CreateLocation::ListsReturned(_, _) => 2,
         CreateLocation::NumbersReturned(_) => 1,
     }
 }

@@ -7,7 +7,8 @@ ghost use Rattle.k_locks.specs.declared.steps.Step.TheVariants as step;
 ghost use Rattle.k_locks.specs.Asks.{hand_asked};
 ghost use Rattle.k_locks.specs.Steps.{goes_on, suits};
 ghost use Rattle.k_locks.specs.Threads.{IsRunOf};
-ghost use Rattle.k_threads.specs.DestroyTable.{CanPush, IsFit, IsSound, ReleaseVictimLock, Victim, ask_of, asked, at_of, can_ask, destroy_of, hand_of, is_open, left_of, locks_of, resumed, step_of, went_of};
+ghost use Rattle.k_threads.specs.declared.destroy.DestroyVictim.TheVariants.{ReleaseVictimLock};
+ghost use Rattle.k_threads.specs.DestroyTable.{CanPush, IsFit, IsSound, Victim, ask_of, asked, at_of, can_ask, destroy_of, hand_of, is_open, left_of, locks_of, resumed, step_of, went_of};
 
 mod counts;
 mod moves;

@@ -8,7 +8,7 @@ ghost use Rattle.k_locks.specs.Shown.{is_dead};
 ghost use Rattle.k_threads.specs.CreateTable.{IsFit, IsSoundLocation, IsSoundLocked, Locked, Outside, at_of, choose, hand_of, released_end, resumed_location, went_of};
 
 use crate::create::{
-    CreateCall, CreateLocation, CreateLocked, CreateOutside, CreatePushing, CreateRelease,
+    CreateCall, CreateLocation, CreateLocked, CreateOutside, CreateRelease,
 };
 use crate::words::went_on;
 use k_ids::{Reply, ThreadId};
@@ -40,7 +40,7 @@ impl CreateLocation {
                 CreateLocation::Locked(CreateLocked::LoadCaller, numbers)
             }
             (CreateLocation::Locked(CreateLocked::AcquireReady(id), numbers), Goods::Ready(lists)) => {
-                CreateLocation::Pushing(CreatePushing::PushCreated(id), numbers, lists)
+                CreateLocation::PushCreated(id, numbers, lists)
             }
             (location, _goods) => location,
         }
@@ -56,19 +56,16 @@ impl CreateLocation {
         match self {
             CreateLocation::Outside(at) => (outside_went(at, told), CreateLocation::Outside(at)),
             CreateLocation::Locked(at, numbers) => locked_told(at, numbers, told),
-            CreateLocation::Pushing(CreatePushing::PushCreated(id), numbers, lists) => match told {
+            CreateLocation::PushCreated(id, numbers, lists) => match told {
                 Told::Released => (pushed(call), made(id, numbers)),
-                told => {
-                    let at = CreatePushing::PushCreated(id);
-                    (went_on(told), CreateLocation::Pushing(at, numbers, lists))
-                }
+                told => (
+                    went_on(told),
+                    CreateLocation::PushCreated(id, numbers, lists),
+                ),
             },
-            CreateLocation::ListsReturned(CreatePushing::PushCreated(id), numbers) => match told {
+            CreateLocation::ListsReturned(id, numbers) => match told {
                 Told::Released => (pushed(call), made(id, numbers)),
-                told => {
-                    let at = CreatePushing::PushCreated(id);
-                    (went_on(told), CreateLocation::ListsReturned(at, numbers))
-                }
+                told => (went_on(told), CreateLocation::ListsReturned(id, numbers)),
             },
             CreateLocation::NumbersReturned(end) => match told {
                 Told::Released => ended(end),

@@ -4,10 +4,10 @@ ghost use Rattle.k_ids.specs.declared.state_word.StateWord.{StateWord};
 ghost use Rattle.k_ready.specs.Lists.{IsInNone};
 ghost use Rattle.k_locks.specs.Hands.{Hand, no_lists, no_queue};
 ghost use Rattle.k_locks.specs.Numbers.{ThreadNumbers};
-ghost use Rattle.k_threads.specs.CreateTable.{CanPush, IsSoundLocation, IsSoundLocked, IsSoundRelease, Locked, Outside, Pushing, asked_location, at_of, can_ask, hand_of, step_at};
+ghost use Rattle.k_threads.specs.CreateTable.{CanPush, IsSoundLocation, IsSoundLocked, IsSoundRelease, Locked, Outside, PushCreated, asked_location, at_of, can_ask, hand_of, step_at};
 
 use crate::create::{
-    CreateCall, CreateLocation, CreateLocked, CreateOutside, CreatePushing, CreateRelease,
+    CreateCall, CreateLocation, CreateLocked, CreateOutside, CreateRelease,
 };
 use crate::words::{created_bits, dead_bits};
 use k_ids::ThreadId;
@@ -28,11 +28,10 @@ impl CreateLocation {
         match self {
             CreateLocation::Outside(at) => (outside_step(call, at), CreateLocation::Outside(at)),
             CreateLocation::Locked(at, numbers) => locked_step(call, at, numbers),
-            CreateLocation::Pushing(CreatePushing::PushCreated(id), numbers, lists) => {
-                let at = CreatePushing::PushCreated(id);
+            CreateLocation::PushCreated(id, numbers, lists) => {
                 (
                     pushing_step(call, id, lists),
-                    CreateLocation::ListsReturned(at, numbers),
+                    CreateLocation::ListsReturned(id, numbers),
                 )
             }
             CreateLocation::ListsReturned(_, _) | CreateLocation::NumbersReturned(_) => unreachable!(),
@@ -97,7 +96,7 @@ fn pushing_step(call: CreateCall, id: ThreadId, lists: ReadyLists) -> Step
     requires priority { call.priority < 64 }
     requires number { id.number < 64 }
     requires room { IsInNone id.number lists.lists }
-    ensures { (own : StateWord) (numbers : ThreadNumbers) → result ≡ step_at call own (record { numbers = numbers; queue = no_queue; lists = lists }) (Pushing (CreatePushing.PushCreated id)) }
+    ensures { (own : StateWord) (numbers : ThreadNumbers) → result ≡ step_at call own (record { numbers = numbers; queue = no_queue; lists = lists }) (PushCreated id) }
 {
     let mut lists = lists;
     lists.push(id.number, id.version, call.priority);

@@ -1,7 +1,7 @@
 // The locks that a destroy holds, and how many steps are left until their release.
 ghost use Rattle.std.specs.Prelude.{if◌then◌else◌, ◌==◌, ◌≡◌, ◌≤◌, ◌+◌, ◌-◌, ◌*◌, ℕ, length};
 ghost use Rattle.k_senders.specs.Queue.{Queue};
-ghost use Rattle.k_locks.specs.Hands.{Hand};
+ghost use Rattle.k_locks.specs.Hands.{Hand, nothing};
 ghost use Rattle.k_threads.specs.DestroyTable.{Locked, Pushing, UnlistVictim, Victim, Visit, at_of, hand_of, in_queue, left_of, left_ready, left_table, left_thread, locks_of, locks_thread, queue_at, returned_at, returned_hand, to_visit, visited_at, visits};
 
 use crate::destroy::{
@@ -146,7 +146,7 @@ impl DestroyCall {
     }
 
     fn left_locked(&self, at: DestroyLocked) -> u32
-        ensures { (h : Hand) → left_table self.now h (Locked at) ≡ result }
+        ensures { result ≡ left_table self.now nothing (Locked at) }
     {
         match at {
             DestroyLocked::LoadCaller => 4 * self.others() + self.visits() + 4,
@@ -175,7 +175,7 @@ impl DestroyCall {
     }
 
     fn left_visit(&self, at: DestroyVisit) -> u32
-        ensures { (h : Hand) → left_table self.now h (Visit at) ≡ result }
+        ensures { result ≡ left_table self.now nothing (Visit at) }
     {
         match at {
             DestroyVisit::LoadVisited(visited) => self.at_visit(visited, 0),

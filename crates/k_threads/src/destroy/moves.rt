@@ -96,7 +96,6 @@ impl DestroyLocation {
 
 // The queue of the victim, or of the visited number.
 fn got_queue(at: DestroyLocked, numbers: Numbers, queue: Senders) -> DestroyLocation
-    requires { (call : DestroyCall) → IsSoundLocked call at }
     ensures location { (call : DestroyCall) (own : StateWord) → result ≡ resumed_location call own (DestroyLocation.Locked at numbers) (answer.Got (Goods.Senders queue)) }
     ensures went { (call : DestroyCall) (own : StateWord) (h : Hand) → went_of call own h (Locked at) (answer.Got (Goods.Senders queue)) ≡ Went.On }
     ensures sound { (call : DestroyCall) → IsSoundLocked call at → IsSoundLocation call result }
@@ -114,6 +113,7 @@ fn outside_told(at: DestroyOutside, told: Told) -> (Went, DestroyLocation)
     requires { IsFit (Outside at) (answer.Told told) }
     ensures location { (call : DestroyCall) (own : StateWord) → result.1 ≡ resumed_location call own (DestroyLocation.Outside at) (answer.Told told) }
     ensures went { (call : DestroyCall) (own : StateWord) (h : Hand) → result.0 ≡ went_of call own h (Outside at) (answer.Told told) }
+    ensures sound { (call : DestroyCall) → IsSoundLocation call result.1 }
 {
     let went = match (at, told) {
         (DestroyOutside::LoadOwn, Told::Loaded(bits)) => alive_or_dead(&state_word(bits)),
@@ -221,16 +221,17 @@ fn victim_told(
 {
     let at = match (at, told) {
         (DestroyVictim::LoadVictim, Told::Loaded(bits)) => after_victim(call, state_word(bits)),
-        (DestroyVictim::CommitKill(_), Told::Won) => return (Went::On, free_first(numbers, queue)),
+        (DestroyVictim::CommitKill(_), Told::Won) => free_first(&queue),
         (DestroyVictim::CommitKill(_), Told::Lost { .. }) => DestroyVictim::LoadVictim,
         (DestroyVictim::LoadSender(sender), Told::Loaded(bits)) => {
             DestroyVictim::FreeSender(sender, state_word(bits))
         }
         (DestroyVictim::FreeSender(sender, seen), Told::Won) => {
-            return (Went::On, after_free(sender, seen, numbers, queue));
+            let (at, queue) = after_free(sender, seen, queue);
+            return (Went::On, DestroyLocation::Victim(at, numbers, queue));
         }
         (DestroyVictim::FreeSender(sender, _), Told::Lost { .. }) => DestroyVictim::LoadSender(sender),
-        (at, Told::Released) => return (Went::On, unlocked(at, numbers, queue)),
+        (_, Told::Released) => return (Went::On, unlocked(at, numbers, queue)),
         (at, told) => return (went_on(told), DestroyLocation::Victim(at, numbers, queue)),
     };
     (Went::On, DestroyLocation::Victim(at, numbers, queue))
@@ -250,30 +251,33 @@ fn after_victim(call: DestroyCall, word: StateWord) -> DestroyVictim
 }
 
 // A sender was freed. One that was off has to be put into a ready list. The entry of one that was on, the first, is taken out.
-fn after_free(sender: u8, seen: StateWord, numbers: Numbers, queue: Senders) -> DestroyLocation
+fn after_free(sender: u8, seen: StateWord, queue: Senders) -> (DestroyVictim, Senders)
     requires { IsWaiter 64 sender seen }
-    ensures location { result ≡ (if seen.on then DestroyLocation.Victim (free_first (without_first queue).entries) numbers (without_first queue) else DestroyLocation.Victim (DestroyVictim.AcquireReadyForSender sender seen) numbers queue) }
-    ensures sound { (call : DestroyCall) → IsSoundLocation call result }
+    ensures next { result.0 ≡ (if seen.on then free_first (without_first queue).entries else DestroyVictim.AcquireReadyForSender sender seen) }
+    ensures queue { result.1 ≡ (if seen.on then without_first queue else queue) }
+    ensures sound { IsSoundVictim result.0 result.1 }
 {
     if seen.on {
-        free_first(numbers, without_first(queue))
+        let queue = without_first(queue);
+        (free_first(&queue), queue)
     } else {
-        let at = DestroyVictim::AcquireReadyForSender(sender, seen);
-        DestroyLocation::Victim(at, numbers, queue)
+        (
+            DestroyVictim::AcquireReadyForSender(sender, seen),
+            queue,
+        )
     }
 }
 
 // On to the first of those who still wait to send to the victim.
 #[tactic(auto, using(crate::proofs::Entries::first_inside, crate::proofs::Entries::nothing_stands))]
-fn free_first(numbers: Numbers, queue: Senders) -> DestroyLocation
-    ensures location { result ≡ DestroyLocation.Victim (free_first queue.entries) numbers queue }
-    ensures sound { (call : DestroyCall) → IsSoundLocation call result }
+fn free_first(queue: &Senders) -> DestroyVictim
+    ensures next { result ≡ free_first queue.now.entries }
+    ensures sound { IsSoundVictim result queue.now }
 {
-    let at = match queue.first() {
+    match queue.first() {
         Some(sender) => DestroyVictim::LoadSender(sender),
         None => DestroyVictim::ReleaseVictimLock,
-    };
-    DestroyLocation::Victim(at, numbers, queue)
+    }
 }
 
 // The victim's lock was released, if that was the step.
@@ -383,16 +387,18 @@ fn pushing_told(
 // A thread was pushed. The entry of a sender, the first, is taken out.
 fn pushed(at: DestroyPushing, numbers: Numbers, queue: Senders) -> (Went, DestroyLocation)
     ensures location { (call : DestroyCall) (own : StateWord) (lists : Ready) → result.1 ≡ resumed_location call own (DestroyLocation.Pushing at numbers queue lists) (answer.Told Told.Released) }
+    ensures returned { (call : DestroyCall) (own : StateWord) → result.1 ≡ resumed_location call own (DestroyLocation.Returned (DestroyReturned.Pushed at numbers queue)) (answer.Told Told.Released) }
     ensures went { (call : DestroyCall) (own : StateWord) (h : Hand) → result.0 ≡ went_of call own h (Pushing at) (answer.Told Told.Released) }
     ensures sound { (call : DestroyCall) → IsSoundPushing call at → IsSoundLocation call result.1 }
 {
     match at {
         DestroyPushing::PushSender(_, seen) => {
+            let queue = without_first(queue);
             (
                 Went::Pushed {
                     priority: seen.priority,
                 },
-                free_first(numbers, without_first(queue)),
+                DestroyLocation::Victim(free_first(&queue), numbers, queue),
             )
         }
         DestroyPushing::PushVisited(visited, seen) => {

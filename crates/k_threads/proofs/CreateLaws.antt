@@ -1,6 +1,7 @@
 -- The table of a create: what holds of each location.
-use Rattle.std.proofs.Common.{◌≡◌, ℕ, Bool, true, false, Option, Some, None, inl, inr, refl, sym, ap, ◌∙◌}
-use Rattle.std.proofs.lemmas.Bool.{false≢true, cond_both}
+use Rattle.std.proofs.Common.{◌≡◌, ℕ, Bool, true, false, Option, Some, None, inl, inr, refl, sym, ap, ◌∙◌, arith}
+use Rattle.std.proofs.lemmas.Bool.{false≢true}
+use Rattle.std.proofs.lemmas.Grind.{common_steps}
 use Rattle.k_ids.specs.declared.state_word.StateWord.{StateWord}
 use Rattle.k_locks.specs.declared.locks.Lock.TheVariants as lock
 use Rattle.k_locks.specs.declared.steps.Answer.{Answer}
@@ -20,7 +21,7 @@ use Rattle.k_threads.specs.declared.create.CreateRelease.{CreateRelease}
 use Rattle.k_threads.specs.declared.create.CreateRelease.TheVariants as release
 use Rattle.k_threads.specs.CreateTable.{CreateAt, Locked, Outside, PushCreated, ask_of, asked_location, at_of, can_ask, hand_after, hand_of, is_open, leads, location_with, locks_of, moved_location, pushed_at, released_end, resumed_location, step_at, response_at, told_at, went_of}
 use Rattle.k_threads.specs.Went.{makes}
-use Rattle.k_threads.proofs.Steps.{again_unmade, made_or_not, on_again, released_once, same_answers}
+use Rattle.k_threads.proofs.Steps.{made_or_not, never_unmade, on_again, same_answers}
 
 -- A LOCATION AND WHAT IS IN HAND
 
@@ -82,8 +83,8 @@ waits_for_it : (c : CreateCall) (own : StateWord) (l : CreateLocation) (a : Answ
 waits_for_it c own (location.Outside p) a e m = refl
 waits_for_it c own (location.Locked p numbers) a e m = refl
 waits_for_it c own (location.PushCreated id numbers lists) a e m = refl
-waits_for_it c own (location.ListsReturned id numbers) a e m = absurd (false≢true (sym (released_once lock.Ready _ a e) ∙ again_unmade _ a e m))
-waits_for_it c own (location.NumbersReturned r) a e m = absurd (false≢true (sym (released_once lock.Table _ a e) ∙ again_unmade _ a e m))
+waits_for_it c own (location.ListsReturned id numbers) a e m = absurd (never_unmade lock.Ready (hand_after c (hand_of (location.ListsReturned id numbers)) (PushCreated id) plain.Released) a e m)
+waits_for_it c own (location.NumbersReturned r) a e m = absurd (never_unmade lock.Table (hand_after c (hand_of (location.NumbersReturned r)) (Locked (Release r)) plain.Released) a e m)
 
 pub resumed_answered : (c : CreateCall) (own : StateWord) (l : CreateLocation) (a : Answer) → suits (step_at c own (hand_of l) (at_of l)) a ≡ true → can_ask (resumed_location c own l a) ≡ is_open (at_of (resumed_location c own l a))
 resumed_answered c own l a e = elim (made_or_not (makes (step_at c own (hand_of l) (at_of l)) a)) [
@@ -101,13 +102,11 @@ over release.Dead = refl
 
 -- whether the section goes on is told
 open_after : (c : CreateCall) (h : Hand) (p : CreateAt) (r : Response) → is_open p ≡ true → is_open (leads c h p r) ≡ goes_on (told_at (pushed_at c p) (leads c h p r))
-open_after c h (Outside AcquireTable) plain.Got o = refl
-open_after c h (Outside AcquireTable) r o = refl
+open_after c h (Outside AcquireTable) r o = grind (arith, common_steps)
 open_after c h (Outside (Ended w)) r o = absurd (false≢true o)
-open_after c h (Locked (Release e)) plain.Released o = over e
-open_after c h (Locked p) r o = refl
-open_after c h (PushCreated id) plain.Released o = refl
-open_after c h (PushCreated id) r o = refl
+open_after c h (Locked (Release e)) r o = grind (arith, common_steps, over)
+open_after c h (Locked p) r o = grind (arith, common_steps)
+open_after c h (PushCreated id) r o = grind (arith, common_steps)
 
 pub resumed_open : (c : CreateCall) (own : StateWord) (l : CreateLocation) (a : Answer) → is_open (at_of l) ≡ true → is_open (at_of (resumed_location c own l a)) ≡ goes_on (went_of c own (hand_of l) (at_of l) a)
 resumed_open c own l a o = elim (made_or_not (makes (step_at c own (hand_of l) (at_of l)) a)) [

@@ -1,5 +1,5 @@
 -- A create: its locks, and how many steps are left.
-use Rattle.std.proofs.Common.{◌≡◌, ℕ, ◌+◌, ◌*◌, ◌≤◌, Bool, true, false, not, Option, Some, None, List, [], ◌∷◌, refl, arith}
+use Rattle.std.proofs.Common.{◌≡◌, ℕ, ◌+◌, ◌*◌, ◌≤◌, Bool, true, false, not, Option, Some, None, List, [], ◌∷◌, length, refl, arith}
 use Rattle.std.proofs.lemmas.Bool.{cond_both}
 use Rattle.std.proofs.lemmas.Grind.{common_steps}
 use Rattle.std.specs.Prelude.{slice_get, if◌then◌else◌}
@@ -12,7 +12,7 @@ use Rattle.k_locks.specs.Hands.{Hand}
 use Rattle.k_locks.specs.Locks.{Holds, IsByRank, rank_of}
 use Rattle.k_locks.specs.Numbers.{ThreadNumbers, lowest_free}
 use Rattle.k_locks.specs.Shown.{is_dead}
-use Rattle.k_locks.specs.Tables.{IsAbove, IsHeld, IsMade, IsReleasedInTime, IsRising, hand_came, locks_after, there_after}
+use Rattle.k_locks.specs.Tables.{IsAbove, IsHeld, IsMade, IsReleasedInTime, IsRising, Run, hand_came, locks_after, makes, stops}
 use Rattle.k_locks.proofs.Responses.{made_by, told_by}
 use Rattle.k_locks.proofs.Tables.{IsFalling, is_exchange, released_in_time}
 use Rattle.k_threads.specs.declared.create.CreateCall.{CreateCall}
@@ -144,3 +144,10 @@ falling c = record {
 
 pub in_time : (c : CreateCall) → IsReleasedInTime (create_table c)
 in_time c = released_in_time (create_table c) (falling c)
+
+pub most : (c : CreateCall) (k : Lock) (own : StateWord) (h : Hand) (p : CreateAt) (answers : List Response) → Run (create_table c) k own h p answers → length answers ≤ left_of c h p k
+most c k own h p answers (stops v i l) = omega arith
+most c k own h p answers (makes v i l r g more holds m run) =
+    let f = falls c k own h (hand_came r g (hand_after c h p r)) p r g holds m in
+    let n = most c k own (hand_came r g (hand_after c h p r)) (leads c h p r) more run in
+    omega (arith, f, n)

@@ -16,7 +16,7 @@ use Rattle.k_locks.specs.Asks as plain
 use Rattle.k_locks.specs.Hands.{Hand, with_goods}
 use Rattle.k_locks.specs.Locks.{Holds, guards, rank_of}
 use Rattle.k_locks.specs.Shown.{is_dead, is_present_in}
-use Rattle.k_locks.specs.Tables.{IsMade, IsReleasedInTime, brings, hand_came, misses, there_after}
+use Rattle.k_locks.specs.Tables.{IsMade, IsReleasedInTime, Reached, Run, brings, hand_came, is_found, lost_in, lost_later, misses, there_after}
 use Rattle.k_locks.proofs.Responses.{made_by}
 use Rattle.k_locks.proofs.Tables.{IsFalling, is_exchange, released_in_time}
 use Rattle.k_threads.specs.declared.destroy.DestroyCall.{DestroyCall}
@@ -437,8 +437,8 @@ quiet c own (Pushing (PushVisited visited seen)) holds = refl
 -- the column is the rest where the loaded word isn't there any more
 columns_table : (c : DestroyCall) (h : Hand) (p : DestroyAt) → left_table c h p ≡ rest_table c h false p
 columns_table c h (Victim (CommitKill seen)) = refl
-columns_table c h (Victim (FreeSender sender seen)) = refl
-columns_table c h (Visit (FreeVisited visited seen)) = refl
+columns_table c h (Victim (FreeSender sender seen)) = omega arith
+columns_table c h (Visit (FreeVisited visited seen)) = omega arith
 columns_table c h p = refl
 
 columns_thread : (h : Hand) (p : DestroyAt) → left_thread h p ≡ rest_thread h false p
@@ -520,3 +520,16 @@ falling c i = record {
 
 pub in_time : (c : DestroyCall) → c.who.number < c.count → IsReleasedInTime (destroy_table c)
 in_time c i = released_in_time (destroy_table c) (falling c i)
+
+-- told that the loaded word is still there, two steps more for each lost exchange
+pub rested : (c : DestroyCall) (k : Lock) (own : StateWord) (h : Hand) (p : DestroyAt) (answers : List Response) → c.who.number < c.count → Reached (destroy_table c) own h p → Run (destroy_table c) k own h p answers → length answers ≤ rest_of c h true p k + 2 * lost_in answers
+rested c k own h p answers i reached run =
+    let t = in_time c i in
+    let e = t.exact k own h p answers (t.fits own h p reached) run in
+    let w = within c h p (is_found answers) k in
+    go answers e w
+  where
+    go : (answers : List Response) → length answers ≤ rest_of c h (is_found answers) p k + 2 * lost_later answers → rest_of c h (is_found answers) p k ≤ rest_of c h true p k + 2 → length answers ≤ rest_of c h true p k + 2 * lost_in answers
+    go [] e w = omega arith
+    go (plain.Lost v ∷ more) e w = omega (arith, e, w)
+    go (r ∷ more) e w = omega (arith, e)

@@ -1,6 +1,7 @@
 -- The table of a destroy: what holds of each location.
-use Rattle.std.proofs.Common.{◌≡◌, ℕ, Bool, true, false, List, [], ◌∷◌, Option, Some, None, inl, inr, refl, sym, ap, ◌∙◌}
+use Rattle.std.proofs.Common.{◌≡◌, ℕ, Bool, true, false, List, [], ◌∷◌, Option, Some, None, inl, inr, refl, sym, ap, ◌∙◌, arith}
 use Rattle.std.proofs.lemmas.Bool.{false≢true}
+use Rattle.std.proofs.lemmas.Grind.{common_steps}
 use Rattle.std.specs.Prelude.{if◌then◌else◌}
 use Rattle.k_ids.specs.declared.state_word.StateWord.{StateWord}
 use Rattle.k_locks.specs.declared.goods.Goods.TheVariants as goods
@@ -28,7 +29,7 @@ use Rattle.k_threads.specs.declared.destroy.DestroyLocation.{DestroyLocation}
 use Rattle.k_threads.specs.declared.destroy.DestroyLocation.TheVariants as location
 use Rattle.k_threads.specs.DestroyTable.{DestroyAt, IsSoundLocation, Locked, Outside, Pushing, UnlistVictim, Victim, Visit, alive_or_dead, ask_of, asked_location, at_of, can_ask, hand_after, hand_of, is_open, leads, location_with, locks_of, pushed_at, released_end, resumed_location, response_at, step_at, told_at, went_of}
 use Rattle.k_threads.specs.Went.{makes}
-use Rattle.k_threads.proofs.Steps.{again_unmade, made_or_not, on_again, released_once, same_answers}
+use Rattle.k_threads.proofs.Steps.{made_or_not, never_unmade, on_again, same_answers}
 
 -- A LOCATION AND WHAT IS IN HAND
 
@@ -145,13 +146,13 @@ waits_for_it c own (location.Victim p numbers queue) a e m = refl
 waits_for_it c own (location.Visit p numbers queue) a e m = refl
 waits_for_it c own (location.UnlistVictim numbers lists) a e m = refl
 waits_for_it c own (location.Pushing p numbers queue lists) a e m = refl
-waits_for_it c own (location.Returned (returned.Numbers r)) a e m = absurd (false≢true (sym (released_once lock.Table _ a e) ∙ again_unmade _ a e m))
-waits_for_it c own (location.Returned (returned.VictimLock numbers)) a e m = absurd (false≢true (sym (released_once (lock.Thread c.who.number) _ a e) ∙ again_unmade _ a e m))
-waits_for_it c own (location.Returned (returned.VictimLockAbsent found numbers)) a e m = absurd (false≢true (sym (released_once (lock.Thread c.who.number) _ a e) ∙ again_unmade _ a e m))
-waits_for_it c own (location.Returned (returned.VisitedLock visited numbers)) a e m = absurd (false≢true (sym (released_once (lock.Thread visited) _ a e) ∙ again_unmade _ a e m))
-waits_for_it c own (location.Returned (returned.Unlisted numbers)) a e m = absurd (false≢true (sym (released_once lock.Ready _ a e) ∙ again_unmade _ a e m))
-waits_for_it c own (location.Returned (returned.Pushed (PushSender sender seen) numbers queue)) a e m = absurd (false≢true (sym (released_once lock.Ready _ a e) ∙ again_unmade _ a e m))
-waits_for_it c own (location.Returned (returned.Pushed (PushVisited visited seen) numbers queue)) a e m = absurd (false≢true (sym (released_once lock.Ready _ a e) ∙ again_unmade _ a e m))
+waits_for_it c own (location.Returned (returned.Numbers r)) a e m = absurd (never_unmade lock.Table (hand_after c (hand_of (location.Returned (returned.Numbers r))) (at_of (location.Returned (returned.Numbers r))) plain.Released) a e m)
+waits_for_it c own (location.Returned (returned.VictimLock numbers)) a e m = absurd (never_unmade (lock.Thread c.who.number) (hand_after c (hand_of (location.Returned (returned.VictimLock numbers))) (at_of (location.Returned (returned.VictimLock numbers))) plain.Released) a e m)
+waits_for_it c own (location.Returned (returned.VictimLockAbsent found numbers)) a e m = absurd (never_unmade (lock.Thread c.who.number) (hand_after c (hand_of (location.Returned (returned.VictimLockAbsent found numbers))) (at_of (location.Returned (returned.VictimLockAbsent found numbers))) plain.Released) a e m)
+waits_for_it c own (location.Returned (returned.VisitedLock visited numbers)) a e m = absurd (never_unmade (lock.Thread visited) (hand_after c (hand_of (location.Returned (returned.VisitedLock visited numbers))) (at_of (location.Returned (returned.VisitedLock visited numbers))) plain.Released) a e m)
+waits_for_it c own (location.Returned (returned.Unlisted numbers)) a e m = absurd (never_unmade lock.Ready (hand_after c (hand_of (location.Returned (returned.Unlisted numbers))) (at_of (location.Returned (returned.Unlisted numbers))) plain.Released) a e m)
+waits_for_it c own (location.Returned (returned.Pushed (PushSender sender seen) numbers queue)) a e m = absurd (never_unmade lock.Ready (hand_after c (hand_of (location.Returned (returned.Pushed (PushSender sender seen) numbers queue))) (at_of (location.Returned (returned.Pushed (PushSender sender seen) numbers queue))) plain.Released) a e m)
+waits_for_it c own (location.Returned (returned.Pushed (PushVisited visited seen) numbers queue)) a e m = absurd (never_unmade lock.Ready (hand_after c (hand_of (location.Returned (returned.Pushed (PushVisited visited seen) numbers queue))) (at_of (location.Returned (returned.Pushed (PushVisited visited seen) numbers queue))) plain.Released) a e m)
 
 pub resumed_answered : (c : DestroyCall) (own : StateWord) (l : DestroyLocation) (a : Answer) → suits (step_at c own (hand_of l) (at_of l)) a ≡ true → can_ask (resumed_location c own l a) ≡ is_open (at_of (resumed_location c own l a))
 resumed_answered c own l a e = elim (made_or_not (makes (step_at c own (hand_of l) (at_of l)) a)) [
@@ -176,17 +177,15 @@ over_own w = go (is_dead w)
 
 -- whether the section goes on is told
 open_after : (c : DestroyCall) (h : Hand) (p : DestroyAt) (r : Response) → is_open p ≡ true → is_open (leads c h p r) ≡ goes_on (told_at (pushed_at c p) (leads c h p r))
-open_after c h (Outside LoadOwn) (plain.Word w) o = over_own w
-open_after c h (Outside LoadOwn) r o = refl
-open_after c h (Outside AcquireTable) r o = refl
+open_after c h (Outside LoadOwn) r o = grind (arith, common_steps, over_own)
+open_after c h (Outside AcquireTable) r o = grind (arith, common_steps)
 open_after c h (Outside (Ended w)) r o = absurd (false≢true o)
-open_after c h (Locked (Release e)) plain.Released o = over e
-open_after c h (Locked p) r o = refl
-open_after c h (Victim p) r o = refl
-open_after c h (Visit p) r o = refl
-open_after c h UnlistVictim r o = refl
-open_after c h (Pushing (PushSender sender seen)) r o = refl
-open_after c h (Pushing (PushVisited visited seen)) r o = refl
+open_after c h (Locked (Release e)) r o = grind (arith, common_steps, over)
+open_after c h (Locked p) r o = grind (arith, common_steps)
+open_after c h (Victim p) r o = grind (arith, common_steps)
+open_after c h (Visit p) r o = grind (arith, common_steps)
+open_after c h UnlistVictim r o = grind (arith, common_steps)
+open_after c h (Pushing p) r o = grind (arith, common_steps)
 
 pub resumed_open : (c : DestroyCall) (own : StateWord) (l : DestroyLocation) (a : Answer) → is_open (at_of l) ≡ true → is_open (at_of (resumed_location c own l a)) ≡ goes_on (went_of c own (hand_of l) (at_of l) a)
 resumed_open c own l a o = elim (made_or_not (makes (step_at c own (hand_of l) (at_of l)) a)) [

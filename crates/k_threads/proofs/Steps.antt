@@ -1,5 +1,5 @@
 -- Answers of steps: which can come doesn't depend on what is in hand, and what an answer leaves where it makes no step.
-use Rattle.std.proofs.Common.{◌≡◌, Bool, true, false, not, ◌⊎◌, inl, inr, refl, sym, arith}
+use Rattle.std.proofs.Common.{◌≡◌, Bool, true, false, not, ◌⊎◌, inl, inr, refl, sym, ◌∙◌, arith}
 use Rattle.std.proofs.lemmas.Bool.{false≢true}
 use Rattle.std.specs.Prelude.{if◌then◌else◌}
 use Rattle.k_locks.specs.declared.steps.Answer.{Answer}
@@ -52,3 +52,6 @@ released_once l h (answer.Told t) e = once t e
     once : (t : Told) → suits_told (step_for (Release l) h) t ≡ true → is_again_told t ≡ false
     once told.Released e = refl
     once t e = absurd (false≢true e)
+
+pub never_unmade : (l : Lock) (h : Hand) (x : Answer) → suits (step_for (Release l) h) x ≡ true → makes (step_for (Release l) h) x ≡ false → ⊥
+never_unmade l h x e m = false≢true (sym (released_once l h x e) ∙ again_unmade (step_for (Release l) h) x e m)

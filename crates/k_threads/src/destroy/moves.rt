@@ -226,12 +226,17 @@ fn victim_told(
         (DestroyVictim::LoadSender(sender), Told::Loaded(bits)) => {
             DestroyVictim::FreeSender(sender, state_word(bits))
         }
-        (DestroyVictim::FreeSender(sender, seen), Told::Won) => {
-            let (at, queue) = after_free(sender, seen, queue);
-            return (Went::On, DestroyLocation::Victim(at, numbers, queue));
+        (DestroyVictim::FreeSender(sender, seen), told) => {
+            return freeing_told(sender, seen, numbers, queue, told);
         }
-        (DestroyVictim::FreeSender(sender, _), Told::Lost { .. }) => DestroyVictim::LoadSender(sender),
-        (_, Told::Released) => return (Went::On, unlocked(at, numbers, queue)),
+        (DestroyVictim::ReleaseVictimLock, Told::Released) => {
+            let at = DestroyLocked::AcquireReadyForVictim;
+            return (Went::On, DestroyLocation::Locked(at, numbers));
+        }
+        (DestroyVictim::ReleaseVictimLockAbsent(found), Told::Released) => {
+            let at = DestroyLocked::Release(DestroyRelease::Absent(found));
+            return (Went::On, DestroyLocation::Locked(at, numbers));
+        }
         (at, told) => return (went_on(told), DestroyLocation::Victim(at, numbers, queue)),
     };
     (Went::On, DestroyLocation::Victim(at, numbers, queue))
@@ -247,6 +252,34 @@ fn after_victim(call: DestroyCall, word: StateWord) -> DestroyVictim
         DestroyVictim::CommitKill(word)
     } else {
         DestroyVictim::ReleaseVictimLockAbsent(found_in(call.who.number, &word))
+    }
+}
+
+fn freeing_told(
+    sender: u8,
+    seen: StateWord,
+    numbers: Numbers,
+    queue: Senders,
+    told: Told,
+) -> (Went, DestroyLocation)
+    requires { IsWaiter 64 sender seen }
+    ensures location { (call : DestroyCall) (own : StateWord) → result.1 ≡ resumed_location call own (DestroyLocation.Victim (DestroyVictim.FreeSender sender seen) numbers queue) (answer.Told told) }
+    ensures went { (call : DestroyCall) (own : StateWord) (h : Hand) → result.0 ≡ went_of call own h (Victim (DestroyVictim.FreeSender sender seen)) (answer.Told told) }
+    ensures sound { (call : DestroyCall) → IsSoundLocation call result.1 }
+{
+    match told {
+        Told::Won => {
+            let (at, queue) = after_free(sender, seen, queue);
+            (Went::On, DestroyLocation::Victim(at, numbers, queue))
+        }
+        Told::Lost { .. } => {
+            let at = DestroyVictim::LoadSender(sender);
+            (Went::On, DestroyLocation::Victim(at, numbers, queue))
+        }
+        told => {
+            let at = DestroyVictim::FreeSender(sender, seen);
+            (went_on(told), DestroyLocation::Victim(at, numbers, queue))
+        }
     }
 }
 
@@ -277,25 +310,6 @@ fn free_first(queue: &Senders) -> DestroyVictim
     match queue.first() {
         Some(sender) => DestroyVictim::LoadSender(sender),
         None => DestroyVictim::ReleaseVictimLock,
-    }
-}
-
-// The victim's lock was released, if that was the step.
-fn unlocked(at: DestroyVictim, numbers: Numbers, queue: Senders) -> DestroyLocation
-    requires { IsSoundVictim at queue }
-    ensures location { (call : DestroyCall) (own : StateWord) → result ≡ resumed_location call own (DestroyLocation.Victim at numbers queue) (answer.Told Told.Released) }
-    ensures went { (call : DestroyCall) (own : StateWord) (h : Hand) → went_of call own h (Victim at) (answer.Told Told.Released) ≡ Went.On }
-    ensures sound { (call : DestroyCall) → IsSoundLocation call result }
-{
-    match at {
-        DestroyVictim::ReleaseVictimLock => {
-            DestroyLocation::Locked(DestroyLocked::AcquireReadyForVictim, numbers)
-        }
-        DestroyVictim::ReleaseVictimLockAbsent(found) => {
-            let at = DestroyLocked::Release(DestroyRelease::Absent(found));
-            DestroyLocation::Locked(at, numbers)
-        }
-        at => DestroyLocation::Victim(at, numbers, queue),
     }
 }
 

@@ -1,5 +1,5 @@
 -- The table of a create: what holds of each location.
-use Rattle.std.proofs.Common.{◌≡◌, ℕ, Bool, true, false, Option, Some, None, inl, inr, refl, sym, ap, ◌∙◌, arith}
+use Rattle.std.proofs.Common.{◌≡◌, true, false, inl, inr, refl, sym, ◌∙◌, arith}
 use Rattle.std.proofs.lemmas.Bool.{false≢true}
 use Rattle.std.proofs.lemmas.Grind.{common_steps}
 use Rattle.k_ids.specs.declared.state_word.StateWord.{StateWord}
@@ -8,18 +8,15 @@ use Rattle.k_locks.specs.declared.steps.Answer.{Answer}
 use Rattle.k_locks.specs.Asks.{Response, hand_asked, is_again}
 use Rattle.k_locks.specs.Asks as plain
 use Rattle.k_locks.specs.Hands.{Hand, hand_with, trimmed}
-use Rattle.k_locks.specs.Numbers.{ThreadNumbers, lowest_free}
-use Rattle.k_locks.specs.Shown.{is_dead}
 use Rattle.k_locks.specs.Steps.{goes_on, suits}
 use Rattle.k_threads.specs.declared.create.CreateCall.{CreateCall}
 use Rattle.k_threads.specs.declared.create.CreateLocation.{CreateLocation}
 use Rattle.k_threads.specs.declared.create.CreateLocation.TheVariants as location
-use Rattle.k_threads.specs.declared.create.CreateLocked.{CreateLocked}
 use Rattle.k_threads.specs.declared.create.CreateLocked.TheVariants.{LoadCaller, PlaceContext, CommitCreate, AcquireReady, Release}
 use Rattle.k_threads.specs.declared.create.CreateOutside.TheVariants.{AcquireTable, Ended}
 use Rattle.k_threads.specs.declared.create.CreateRelease.{CreateRelease}
 use Rattle.k_threads.specs.declared.create.CreateRelease.TheVariants as release
-use Rattle.k_threads.specs.CreateTable.{CreateAt, Locked, Outside, PushCreated, ask_of, asked_location, at_of, can_ask, hand_after, hand_of, is_open, leads, location_with, locks_of, moved_location, pushed_at, released_end, resumed_location, step_at, response_at, told_at, went_of}
+use Rattle.k_threads.specs.CreateTable.{CreateAt, Locked, Outside, PushCreated, ask_of, asked_location, at_of, can_ask, hand_after, hand_of, is_open, leads, location_with, locks_of, pushed_at, released_end, resumed_location, step_at, response_at, told_at, went_of}
 use Rattle.k_threads.specs.Went.{makes}
 use Rattle.k_threads.proofs.Steps.{made_or_not, never_unmade, on_again, same_answers}
 

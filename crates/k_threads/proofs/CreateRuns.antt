@@ -1,13 +1,12 @@
 -- A create: its locks, and how many steps are left.
-use Rattle.std.proofs.Common.{◌≡◌, ℕ, ◌+◌, ◌*◌, ◌≤◌, Bool, true, false, not, Option, Some, None, List, [], ◌∷◌, length, refl, arith}
+use Rattle.std.proofs.Common.{◌≡◌, ℕ, ◌+◌, ◌≤◌, true, false, Option, Some, None, List, length, refl, arith}
 use Rattle.std.proofs.lemmas.Bool.{cond_both}
 use Rattle.std.proofs.lemmas.Grind.{common_steps}
-use Rattle.std.specs.Prelude.{slice_get, if◌then◌else◌}
 use Rattle.k_ids.specs.declared.state_word.StateWord.{StateWord}
 use Rattle.k_locks.specs.declared.goods.Goods.{Goods}
 use Rattle.k_locks.specs.declared.locks.Lock.{Lock}
 use Rattle.k_locks.specs.declared.locks.Lock.TheVariants as lock
-use Rattle.k_locks.specs.Asks.{Response, is_lost, suits_response}
+use Rattle.k_locks.specs.Asks.{Response, suits_response}
 use Rattle.k_locks.specs.Hands.{Hand}
 use Rattle.k_locks.specs.Locks.{Holds, IsByRank, rank_of}
 use Rattle.k_locks.specs.Numbers.{ThreadNumbers, lowest_free}
@@ -16,11 +15,9 @@ use Rattle.k_locks.specs.Tables.{IsAbove, IsHeld, IsMade, IsReleasedInTime, IsRi
 use Rattle.k_locks.proofs.Responses.{made_by, told_by}
 use Rattle.k_locks.proofs.Tables.{IsFalling, is_exchange, released_in_time}
 use Rattle.k_threads.specs.declared.create.CreateCall.{CreateCall}
-use Rattle.k_threads.specs.declared.create.CreateLocked.{CreateLocked}
 use Rattle.k_threads.specs.declared.create.CreateLocked.TheVariants.{LoadCaller, PlaceContext, CommitCreate, AcquireReady, Release}
 use Rattle.k_threads.specs.declared.create.CreateOutside.TheVariants.{AcquireTable, Ended}
-use Rattle.k_threads.specs.declared.create.CreateRelease.TheVariants as release
-use Rattle.k_threads.specs.CreateTable.{CreateAt, IsNotLost, Locked, Outside, PushCreated, ask_of, choose, create_table, hand_after, leads, left_of, left_ready, left_table, locks_of, rest_of}
+use Rattle.k_threads.specs.CreateTable.{CreateAt, IsNotLost, Locked, Outside, PushCreated, ask_of, choose, create_table, hand_after, leads, left_of, left_ready, left_table, locks_of}
 use Rattle.k_threads.proofs.Held.{nothing_held, table_ready_ranked, table_ranked}
 
 -- LOCKS

@@ -1,6 +1,6 @@
 -- A destroy: how many steps are left.
-use Rattle.std.proofs.Common.{◌≡◌, ◌≢◌, ◌<◌, ◌≤◌, ◌+◌, ◌-◌, ◌*◌, ℕ, Bool, true, false, not, Option, Some, List, [], ◌∷◌, length, refl, sym, ap, subst, arith}
-use Rattle.std.specs.Prelude.{◌==◌, nat_lt, if◌then◌else◌}
+use Rattle.std.proofs.Common.{◌≡◌, ◌<◌, ◌≤◌, ◌+◌, ◌-◌, ◌*◌, ℕ, Bool, true, false, not, Option, Some, List, [], ◌∷◌, length, refl, sym, ap, subst, arith}
+use Rattle.std.specs.Prelude.{nat_lt, if◌then◌else◌}
 use Rattle.std.proofs.lemmas.Bool.{cond_both, eq-eqb, eqb-true, false≢true}
 use Rattle.std.proofs.lemmas.Bool.Decides.{nat_tests}
 use Rattle.std.proofs.lemmas.Grind.{common_steps}
@@ -14,7 +14,7 @@ use Rattle.k_locks.specs.declared.locks.Lock.TheVariants as lock
 use Rattle.k_locks.specs.Asks.{Ask, Response, is_lost}
 use Rattle.k_locks.specs.Asks as plain
 use Rattle.k_locks.specs.Hands.{Hand, with_goods}
-use Rattle.k_locks.specs.Locks.{Holds, guards, rank_of}
+use Rattle.k_locks.specs.Locks.{Holds, guards}
 use Rattle.k_locks.specs.Shown.{is_dead, is_present_in}
 use Rattle.k_locks.specs.Tables.{IsMade, IsReleasedInTime, Reached, Run, brings, hand_came, is_found, lost_in, lost_later, misses, there_after}
 use Rattle.k_locks.proofs.Responses.{made_by}
@@ -24,7 +24,6 @@ use Rattle.k_threads.specs.declared.destroy.DestroyOutside.TheVariants.{LoadOwn,
 use Rattle.k_threads.specs.declared.destroy.DestroyLocked.TheVariants.{LoadCaller, AcquireVictimLock, AcquireReadyForVictim, RemoveContext, AcquireVisitedLock, Release}
 use Rattle.k_threads.specs.declared.destroy.DestroyRelease.TheVariants as release
 use Rattle.k_threads.specs.declared.destroy.DestroyVictim.TheVariants.{LoadVictim, CommitKill, LoadSender, FreeSender, AcquireReadyForSender, ReleaseVictimLock, ReleaseVictimLockAbsent}
-use Rattle.k_threads.specs.declared.destroy.DestroyVisit.{DestroyVisit}
 use Rattle.k_threads.specs.declared.destroy.DestroyVisit.TheVariants.{LoadVisited, FreeVisited, AcquireReadyForVisited, ReleaseVisitedLock}
 use Rattle.k_threads.specs.declared.destroy.DestroyPushing.TheVariants.{PushSender, PushVisited}
 use Rattle.k_threads.specs.DestroyTable.{DestroyAt, Fits, IsOther, IsShort, Locked, Outside, Pushing, UnlistVictim, Victim, Visit, ask_of, but_victim, counted, destroy_table, first_of, free_first, hand_after, in_queue, leads, left_of, left_ready, left_table, left_thread, locks_of, locks_thread, queue_at, rest_of, rest_table, rest_thread, seen_at, to_visit, visit_from, visited_at, visits}

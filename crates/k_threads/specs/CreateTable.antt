@@ -5,7 +5,7 @@
 -- It holds the table lock from its first step to its last. The context of the new thread is placed before the thread's word
 -- says that it runs. `own` is the caller's state word as the section knows it, `h` is what is in hand, and `id` the thread that
 -- is made. The locations, their order and their lengths are this project's own.
-use Rattle.std.specs.Prelude.{ℕ, ◌+◌, ◌-◌, ◌<◌, ◌≤◌, ◌≡◌, ◌^◌, Bool, true, false, if◌then◌else◌, List, length, Option, Some, None}
+use Rattle.std.specs.Prelude.{ℕ, ◌+◌, ◌-◌, ◌<◌, ◌≡◌, ◌^◌, Bool, true, false, if◌then◌else◌, List, length, Option, Some, None}
 use Rattle.k_ids.specs.declared.threads.ThreadId.{ThreadId}
 use Rattle.k_ids.specs.declared.calls.Phase.TheVariants as phase
 use Rattle.k_ids.specs.declared.calls.Reply.TheVariants as reply

@@ -11,7 +11,6 @@
 -- of the victim's queue, `visited` a number that isn't the victim's, and `seen` the word that was loaded of the thread.
 use Rattle.std.specs.Prelude.{ℕ, ◌+◌, ◌-◌, ◌*◌, ◌==◌, ◌<◌, ◌≤◌, ◌≡◌, ◌≢◌, nat_lt, Bool, true, false, length, if◌then◌else◌, List, [], Option, Some, None}
 use Rattle.k_ids.specs.declared.threads.ThreadId.{ThreadId}
-use Rattle.k_ids.specs.declared.threads.Found.{Found}
 use Rattle.k_ids.specs.declared.calls.Phase.TheVariants as phase
 use Rattle.k_ids.specs.declared.calls.Reply.TheVariants as reply
 use Rattle.k_ids.specs.declared.calls.Act.TheVariants as act
@@ -20,7 +19,7 @@ use Rattle.k_ids.specs.declared.calls.Outcome.TheVariants as outcome
 use Rattle.k_ids.specs.declared.state_word.StateWord.{StateWord}
 use Rattle.k_ids.specs.StateWords.{IsPartner, IsStateSpelling, IsStateWord, state_word_of}
 use Rattle.k_model.specs.State.{same_id}
-use Rattle.k_ready.specs.Lists.{IsInNone, Ready}
+use Rattle.k_ready.specs.Lists.{IsInNone}
 use Rattle.k_senders.specs.declared.entries.SenderEntry.{SenderEntry}
 use Rattle.k_senders.specs.Queue.{Queue, first_number}
 use Rattle.k_locks.specs.declared.locks.Lock.{Lock}
@@ -537,8 +536,11 @@ CanPush c h p = Unit {0}
 
 -- a loaded state word is a spelling; that of a thread in the victim's queue is one of a thread
 abbrev pub IsFit : DestroyAt → Answer → Type 0
+IsFit (Outside LoadOwn) (answer.Told (told.Loaded bits)) = IsStateSpelling bits
+IsFit (Locked LoadCaller) (answer.Told (told.Loaded bits)) = IsStateSpelling bits
+IsFit (Victim LoadVictim) (answer.Told (told.Loaded bits)) = IsStateSpelling bits
 IsFit (Victim (LoadSender sender)) (answer.Told (told.Loaded bits)) = IsStateSpelling bits × (1 ≤ (state_word_of bits).version)
-IsFit p (answer.Told (told.Loaded bits)) = IsStateSpelling bits
+IsFit (Visit (LoadVisited visited)) (answer.Told (told.Loaded bits)) = IsStateSpelling bits
 IsFit p a = Unit {0}
 
 -- WHAT IS CLAIMED OF IT, in the words of any table

@@ -1,5 +1,5 @@
 -- How a section goes on where its location says nothing else.
-use Rattle.std.specs.Prelude.{Bool, true, false, not, ◌&&◌, if◌then◌else◌}
+use Rattle.std.specs.Prelude.{Bool, not, ◌&&◌, if◌then◌else◌}
 use Rattle.k_locks.specs.declared.steps.Answer.{Answer}
 use Rattle.k_locks.specs.declared.steps.Went.{Went}
 use Rattle.k_locks.specs.declared.steps.Went.TheVariants as went

@@ -7,9 +7,7 @@ ghost use Rattle.k_locks.specs.Numbers.{lowest_free};
 ghost use Rattle.k_locks.specs.Shown.{is_dead};
 ghost use Rattle.k_threads.specs.CreateTable.{IsFit, IsSoundLocation, IsSoundLocked, Locked, Outside, at_of, choose, hand_of, released_end, resumed_location, went_of};
 
-use crate::create::{
-    CreateCall, CreateLocation, CreateLocked, CreateOutside, CreateRelease,
-};
+use crate::create::{CreateCall, CreateLocation, CreateLocked, CreateOutside, CreateRelease};
 use crate::words::went_on;
 use k_ids::{Reply, ThreadId};
 use k_locks::{Answer, Goods, Numbers, Told, Went, is_dead, state_word};
@@ -39,9 +37,10 @@ impl CreateLocation {
             (CreateLocation::Outside(CreateOutside::AcquireTable), Goods::Numbers(numbers)) => {
                 CreateLocation::Locked(CreateLocked::LoadCaller, numbers)
             }
-            (CreateLocation::Locked(CreateLocked::AcquireReady(id), numbers), Goods::Ready(lists)) => {
-                CreateLocation::PushCreated(id, numbers, lists)
-            }
+            (
+                CreateLocation::Locked(CreateLocked::AcquireReady(id), numbers),
+                Goods::Ready(lists),
+            ) => { CreateLocation::PushCreated(id, numbers, lists) }
             (location, _goods) => location,
         }
     }

@@ -22,10 +22,8 @@ impl CreateSection {
             } else {
                 self.call.full_point(numbers)
             },
-            (
-                CreateLocation::Locked(CreateLocked::CommitCreate(id), _),
-                Answer::Told(Told::Won),
-            ) => Some(self.call.point_of(Outcome::Made { id: *id })),
+            (CreateLocation::Locked(CreateLocked::CommitCreate(id), _), Answer::Told(Told::Won)) =>
+                Some(self.call.point_of(Outcome::Made { id: *id })),
             _ => None,
         }
     }

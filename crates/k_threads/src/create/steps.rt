@@ -6,9 +6,7 @@ ghost use Rattle.k_locks.specs.Hands.{Hand, no_lists, no_queue};
 ghost use Rattle.k_locks.specs.Numbers.{ThreadNumbers};
 ghost use Rattle.k_threads.specs.CreateTable.{CanPush, IsSoundLocation, IsSoundLocked, IsSoundRelease, Locked, Outside, PushCreated, asked_location, at_of, can_ask, hand_of, step_at};
 
-use crate::create::{
-    CreateCall, CreateLocation, CreateLocked, CreateOutside, CreateRelease,
-};
+use crate::create::{CreateCall, CreateLocation, CreateLocked, CreateOutside, CreateRelease};
 use crate::words::{created_bits, dead_bits};
 use k_ids::ThreadId;
 use k_locks::{Goods, Lock, Numbers, Step, WordName};
@@ -34,7 +32,8 @@ impl CreateLocation {
                     CreateLocation::ListsReturned(id, numbers),
                 )
             }
-            CreateLocation::ListsReturned(_, _) | CreateLocation::NumbersReturned(_) => unreachable!(),
+            CreateLocation::ListsReturned(_, _) | CreateLocation::NumbersReturned(_) =>
+                unreachable!(),
         }
     }
 }

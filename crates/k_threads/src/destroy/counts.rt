@@ -20,7 +20,11 @@ impl DestroySection {
         match &self.location {
             DestroyLocation::Outside(_) => [None, None, None],
             DestroyLocation::Locked(_, _) => [table, None, None],
-            DestroyLocation::Victim(_, _, _) => [table, Some(Lock::Thread(self.call.who.number)), None],
+            DestroyLocation::Victim(_, _, _) => [
+                table,
+                Some(Lock::Thread(self.call.who.number)),
+                None,
+            ],
             DestroyLocation::Visit(at, _, _) => [table, Some(Lock::Thread(at.visited())), None],
             DestroyLocation::UnlistVictim(_, _) => [table, None, Some(Lock::Ready)],
             DestroyLocation::Pushing(at, _, _, _) => self.call.holds_pushing(at),

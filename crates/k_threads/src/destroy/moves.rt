@@ -17,9 +17,7 @@ use crate::destroy::{
 use crate::goods::without_first;
 use crate::words::{is_receiving_from, went_on};
 use k_ids::{Reply, StateWord};
-use k_locks::{
-    Answer, Goods, Numbers, Told, Went, found_in, is_dead, is_present_in, state_word,
-};
+use k_locks::{Answer, Goods, Numbers, Told, Went, found_in, is_dead, is_present_in, state_word};
 use k_ready::ReadyLists;
 use k_senders::Senders;
 
@@ -50,19 +48,30 @@ impl DestroyLocation {
             (DestroyLocation::Outside(DestroyOutside::AcquireTable), Goods::Numbers(numbers)) => {
                 DestroyLocation::Locked(DestroyLocked::LoadCaller, numbers)
             }
-            (DestroyLocation::Locked(at, numbers), Goods::Senders(queue)) => got_queue(at, numbers, queue),
-            (DestroyLocation::Locked(DestroyLocked::AcquireReadyForVictim, numbers), Goods::Ready(lists)) => {
-                DestroyLocation::UnlistVictim(numbers, lists)
-            }
+            (DestroyLocation::Locked(at, numbers), Goods::Senders(queue)) => got_queue(
+                at, numbers, queue,
+            ),
             (
-                DestroyLocation::Victim(DestroyVictim::AcquireReadyForSender(sender, seen), numbers, queue),
+                DestroyLocation::Locked(DestroyLocked::AcquireReadyForVictim, numbers),
+                Goods::Ready(lists),
+            ) => { DestroyLocation::UnlistVictim(numbers, lists) }
+            (
+                DestroyLocation::Victim(
+                    DestroyVictim::AcquireReadyForSender(sender, seen),
+                    numbers,
+                    queue,
+                ),
                 Goods::Ready(lists),
             ) => {
                 let at = DestroyPushing::PushSender(sender, seen);
                 DestroyLocation::Pushing(at, numbers, queue, lists)
             }
             (
-                DestroyLocation::Visit(DestroyVisit::AcquireReadyForVisited(visited, seen), numbers, queue),
+                DestroyLocation::Visit(
+                    DestroyVisit::AcquireReadyForVisited(visited, seen),
+                    numbers,
+                    queue,
+                ),
                 Goods::Ready(lists),
             ) => {
                 let at = DestroyPushing::PushVisited(visited, seen);
@@ -83,8 +92,12 @@ impl DestroyLocation {
         match self {
             DestroyLocation::Outside(at) => outside_told(at, told),
             DestroyLocation::Locked(at, numbers) => locked_told(call, at, numbers, told),
-            DestroyLocation::Victim(at, numbers, queue) => victim_told(call, at, numbers, queue, told),
-            DestroyLocation::Visit(at, numbers, queue) => visit_told(call, at, numbers, queue, told),
+            DestroyLocation::Victim(at, numbers, queue) => victim_told(
+                call, at, numbers, queue, told,
+            ),
+            DestroyLocation::Visit(at, numbers, queue) => visit_told(
+                call, at, numbers, queue, told,
+            ),
             DestroyLocation::UnlistVictim(numbers, lists) => unlist_told(numbers, lists, told),
             DestroyLocation::Pushing(at, numbers, queue, lists) => {
                 pushing_told(at, numbers, queue, lists, told)
@@ -101,7 +114,11 @@ fn got_queue(at: DestroyLocked, numbers: Numbers, queue: Senders) -> DestroyLoca
     ensures sound { (call : DestroyCall) → IsSoundLocked call at → IsSoundLocation call result }
 {
     match at {
-        DestroyLocked::AcquireVictimLock => DestroyLocation::Victim(DestroyVictim::LoadVictim, numbers, queue),
+        DestroyLocked::AcquireVictimLock => DestroyLocation::Victim(
+            DestroyVictim::LoadVictim,
+            numbers,
+            queue,
+        ),
         DestroyLocked::AcquireVisitedLock(visited) => {
             DestroyLocation::Visit(DestroyVisit::LoadVisited(visited), numbers, queue)
         }
@@ -120,10 +137,7 @@ fn outside_told(at: DestroyOutside, told: Told) -> (Went, DestroyLocation)
         (DestroyOutside::Ended(went), Told::Loaded(_)) => went,
         (at, told) => return (went_on(told), DestroyLocation::Outside(at)),
     };
-    (
-        went,
-        DestroyLocation::Outside(DestroyOutside::Ended(went)),
-    )
+    (went, DestroyLocation::Outside(DestroyOutside::Ended(went)))
 }
 
 // How the section ends where the victim is the caller.
@@ -200,10 +214,7 @@ fn ended(end: DestroyRelease) -> (Went, DestroyLocation)
         DestroyRelease::Absent(found) => Went::Ends(Reply::Absent { found }),
         DestroyRelease::Dead => Went::CallerDead,
     };
-    (
-        went,
-        DestroyLocation::Outside(DestroyOutside::Ended(went)),
-    )
+    (went, DestroyLocation::Outside(DestroyOutside::Ended(went)))
 }
 
 fn victim_told(
@@ -294,10 +305,7 @@ fn after_free(sender: u8, seen: StateWord, queue: Senders) -> (DestroyVictim, Se
         let queue = without_first(queue);
         (free_first(&queue), queue)
     } else {
-        (
-            DestroyVictim::AcquireReadyForSender(sender, seen),
-            queue,
-        )
+        (DestroyVictim::AcquireReadyForSender(sender, seen), queue)
     }
 }
 
@@ -336,7 +344,9 @@ fn visit_told(
         } else {
             DestroyVisit::AcquireReadyForVisited(visited, seen)
         },
-        (DestroyVisit::FreeVisited(visited, _), Told::Lost { .. }) => DestroyVisit::LoadVisited(visited),
+        (DestroyVisit::FreeVisited(visited, _), Told::Lost { .. }) => DestroyVisit::LoadVisited(
+            visited,
+        ),
         (DestroyVisit::ReleaseVisitedLock(visited), Told::Released) => {
             let at = visit_from(call, visited + 1);
             return (Went::On, DestroyLocation::Locked(at, numbers));

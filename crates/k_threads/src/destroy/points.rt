@@ -16,14 +16,12 @@ impl DestroySection {
         ensures { result ≡ points caller.now self.now.call (hand_of self.now.location) (at_of self.now.location) (response_at self.now.call self.now.own (at_of self.now.location) answer.now) }
     {
         match (&self.location, answer) {
-            (
-                DestroyLocation::Outside(DestroyOutside::LoadOwn),
-                Answer::Told(Told::Loaded(bits)),
-            ) => if is_dead(&state_word(*bits)) {
-                None
-            } else {
-                Some(self.call.point_of(Outcome::Own))
-            },
+            (DestroyLocation::Outside(DestroyOutside::LoadOwn), Answer::Told(Told::Loaded(bits))) =>
+                if is_dead(&state_word(*bits)) {
+                    None
+                } else {
+                    Some(self.call.point_of(Outcome::Own))
+                },
             (
                 DestroyLocation::Victim(DestroyVictim::LoadVictim, _, _),
                 Answer::Told(Told::Loaded(bits)),

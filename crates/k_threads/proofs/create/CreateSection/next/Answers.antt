@@ -1,9 +1,8 @@
-use Rattle.std.proofs.Common.{◌≡◌, sym, ap, subst, ◌∙◌}
-use Rattle.k_ids.specs.declared.state_word.StateWord.{StateWord}
+use Rattle.std.proofs.Common.{◌≡◌, sym, ap, ◌∙◌}
 use Rattle.k_locks.specs.declared.steps.Step.{Step}
 use Rattle.k_locks.specs.Steps.{suits}
 use Rattle.k_threads.specs.declared.create.CreateLocation.{CreateLocation}
-use Rattle.k_threads.specs.CreateTable.{IsSoundLocation, asked_location, at_of, hand_of, step_at}
+use Rattle.k_threads.specs.CreateTable.{asked_location, at_of, hand_of, step_at}
 use Rattle.k_threads.proofs.CreateLaws.{asked_at, asked_hand, asked_suits}
 use Rattle.k_threads.proofs.create.CreateSection.next.Goals as goal
 

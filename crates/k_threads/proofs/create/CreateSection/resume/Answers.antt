@@ -1,6 +1,6 @@
 use Rattle.std.proofs.Common.{◌≡◌, refl, sym, ap, ◌∙◌}
 use Rattle.k_threads.specs.declared.create.CreateLocation.{CreateLocation}
-use Rattle.k_threads.specs.CreateTable.{at_of, can_ask, hand_of, is_open, resumed_location, went_of}
+use Rattle.k_threads.specs.CreateTable.{at_of, hand_of, is_open, resumed_location, went_of}
 use Rattle.k_locks.specs.Steps.{goes_on}
 use Rattle.k_threads.proofs.CreateLaws.{resumed_answered, resumed_open}
 use Rattle.k_threads.proofs.create.CreateSection.resume.Goals as goal

@@ -1,9 +1,8 @@
-use Rattle.std.proofs.Common.{◌≡◌, sym, ap, subst, ◌∙◌}
-use Rattle.k_ids.specs.declared.state_word.StateWord.{StateWord}
+use Rattle.std.proofs.Common.{◌≡◌, sym, ap, ◌∙◌}
 use Rattle.k_locks.specs.declared.steps.Step.{Step}
 use Rattle.k_locks.specs.Steps.{suits}
 use Rattle.k_threads.specs.declared.destroy.DestroyLocation.{DestroyLocation}
-use Rattle.k_threads.specs.DestroyTable.{IsSoundLocation, asked_location, at_of, hand_of, step_at}
+use Rattle.k_threads.specs.DestroyTable.{asked_location, at_of, hand_of, step_at}
 use Rattle.k_threads.proofs.DestroyLaws.{asked_at, asked_hand, asked_suits, empty_back}
 use Rattle.k_threads.proofs.destroy.DestroySection.next.Goals as goal
 

@@ -1,6 +1,6 @@
 use Rattle.std.proofs.Common.{◌≡◌, refl, sym, ap, ◌∙◌}
 use Rattle.k_threads.specs.declared.destroy.DestroyLocation.{DestroyLocation}
-use Rattle.k_threads.specs.DestroyTable.{at_of, can_ask, hand_of, is_open, resumed_location, went_of}
+use Rattle.k_threads.specs.DestroyTable.{at_of, hand_of, is_open, resumed_location, went_of}
 use Rattle.k_locks.specs.Steps.{goes_on}
 use Rattle.k_threads.proofs.DestroyLaws.{resumed_answered, resumed_open}
 use Rattle.k_threads.proofs.destroy.DestroySection.resume.Goals as goal

@@ -206,8 +206,8 @@ abbrev pub freed : ThreadId → Point
 freed id = record { who = id; act = act.Gone; outcome = outcome.Freed }
 
 -- The point of the history that a step makes, if any. `caller` is the caller's state word at this very step: at LoadOwn it is
--- the word that the step loads. Elsewhere a destroy decides without a look at it: a thread is destroyed under the table lock
--- alone, so nobody destroys one that holds it.
+-- the word that the step loads. Elsewhere a destroy decides without a look at it: a word becomes dead at CommitKill alone, under
+-- the table lock, which the section holds.
 abbrev pub points : StateWord → DestroyCall → Hand → DestroyAt → Response → Option Point
 points caller c h (Outside LoadOwn) (plain.Word w) = if is_dead w then None else Some (point_of c outcome.Own)
 points caller c h (Victim LoadVictim) (plain.Word w) = if is_present_in w c.who then None else Some (point_of c (outcome.Absent (found_in c.who.number w)))

@@ -87,7 +87,6 @@ fn numbers() -> Numbers {
     }
 }
 
-#[tactic(auto, using(crate::proofs::Tested::nobody_stands))]
 fn queue(alloc: Global, waits: bool) -> Result<Senders, NoMemory> {
     let mut queue = Senders::opened(alloc, 4)?;
     if waits {

@@ -8,7 +8,7 @@ use super::{
 };
 use crate::create::{CreateLocation, CreateOutside, CreateSection};
 use k_ids::{NoMemory, Reply, Result4, StateWord};
-use k_locks::{Lock, Told, Went};
+use k_locks::{Answer, Lock, Told, Went};
 use std::alloc::Global;
 use std::process::Abort;
 
@@ -35,24 +35,17 @@ fn can_push(section: &CreateSection) -> bool
 }
 
 // Makes the step of a row, which must be as it should be.
-fn made(
-    rt: &impl Abort,
-    alloc: Global,
-    section: &mut CreateSection,
-    row: Row,
-) -> Result<(), NoMemory>
+fn step(rt: &impl Abort, section: &mut CreateSection, row: Row, answer: Answer)
     requires { IsSound section.old }
-    ensures { OnOk result (IsSound section.new) }
+    ensures { IsSound section.new }
 {
-    let left = section.left(Lock::Table);
-    let answer = answered(alloc, row.2)?;
-    assert!(rt; is_fit(&answer));
+    assert_eq!(rt; section.left(Lock::Table), row.1);
     assert!(rt; can_ask(section));
     assert!(rt; can_push(section));
-    let look = shown(&section.next());
-    let went = section.resume(answer);
-    assert_eq!(rt; (look, left, went), (row.0, row.1, row.3));
-    Ok(())
+    let step = section.next();
+    assert_eq!(rt; shown(&step), row.0);
+    assert!(rt; is_fit(&answer));
+    assert_eq!(rt; section.resume(answer), row.3);
 }
 
 // Walks along the rows.
@@ -66,7 +59,7 @@ fn walk(
     ensures { OnOk result (IsSound section.new) }
 {
     for row in rows {
-        made(rt, alloc, section, *row)?;
+        step(rt, section, *row, answered(alloc, row.2)?);
     }
     Ok(())
 }

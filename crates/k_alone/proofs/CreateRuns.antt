@@ -29,11 +29,11 @@ use Rattle.k_threads.specs.Hands.{Hand, nothing, hand_asked}
 use Rattle.k_threads.specs.Words.{created_word, dead_word}
 use Rattle.k_threads.specs.Create.{CreateLocation, LoadCaller, PlaceContext, CommitCreate, AcquireReady, PushCreated, ReleaseTable, ReleaseTableFull, Ended, created}
 use Rattle.k_model.specs.State.{is_dead as is_dead_status}
-use Rattle.k_alone.specs.Memory.{Memory, with_context, with_numbers}
-use Rattle.k_alone.specs.Sound.{IsCaller, IsSoundMemory}
+use Rattle.k_shown.specs.Memory.{Memory, with_context, with_numbers}
+use Rattle.k_shown.specs.Sound.{IsCaller, IsSoundMemory}
 use Rattle.k_alone.specs.Alone.{Run, begun}
 use Rattle.k_alone.specs.CreateAlone.{CreateAt, create_table, create_begun}
-use Rattle.k_alone.proofs.Kept.{pushed}
+use Rattle.k_shown.proofs.Kept.{pushed}
 use Rattle.k_alone.proofs.Creates.{making}
 use Rattle.k_alone.proofs.Runs.{Goes, arrived, can, load, on, one, places, won, writes}
 

@@ -1,6 +1,6 @@
 -- A destroy alone makes the specification's event, and the gone events of the threads that it frees.
-use Rattle.std.proofs.Common.{◌≡◌, ◌≢◌, ℕ, ◌+◌, ◌<◌, ◌≤◌, true, false, not, ◌&&◌, eqb, List, [], ◌∷◌, ◌++◌, map, refl, sym, ap, ◌∙◌, subst, arith, Option, Some, inl, inr, ◌⊎◌}
-use Rattle.std.proofs.lemmas.Bool.{false≢true, eqb-true, eq-eqb, cases_Bool, cases_eq, cases_lt, and_parts, not-true, ne_eqb}
+use Rattle.std.proofs.Common.{◌≡◌, ◌≢◌, ℕ, ◌+◌, ◌<◌, ◌≤◌, true, false, not, eqb, List, [], ◌∷◌, ◌++◌, map, refl, sym, ap, ◌∙◌, subst, arith, Option, Some, inl, inr, ◌⊎◌}
+use Rattle.std.proofs.lemmas.Bool.{false≢true, eqb-true, cases_Bool, cases_eq, cases_lt, and_parts, not-true}
 use Rattle.std.proofs.lemmas.List.{append_assoc, map-append}
 use Rattle.std.proofs.lemmas.List.Elements.{filter-append}
 use Rattle.std.proofs.lemmas.Nat.Bits.{bit_at_clear_same, bit_at_clear_other}
@@ -31,48 +31,36 @@ use Rattle.k_threads.specs.declared.destroy.DestroyCall.{DestroyCall}
 use Rattle.k_threads.specs.Hands.{no_numbers, no_ready, no_senders, unlisted}
 use Rattle.k_threads.specs.Words.{dead_word}
 use Rattle.k_threads.specs.Destroy.{Ended, ReleaseTable, ReleaseVictimLock, destroyed, free_first, visit_from}
-use Rattle.k_model.specs.State.{KernelState, Waiting, answered, found_of, is_dead, is_present, same_id}
-use Rattle.k_model.specs.Step.{acted, made, destroy, killed}
+use Rattle.k_model.specs.State.{KernelState, Waiting, answered, is_dead, is_present, same_id}
+use Rattle.k_model.specs.Step.{killed}
 use Rattle.k_model.specs.History.{IsReplay}
 use Rattle.k_model.specs.Maps.{upd}
 use Rattle.k_model.proofs.Sound.{inside_from}
 use Rattle.k_model.proofs.Maps.{upd_same, upd_other}
 use Rattle.k_model.proofs.Lists.{all_weaker}
 use Rattle.k_model.proofs.Places.{killed_waiting}
-use Rattle.k_alone.specs.Leaves.{made_by, state_told}
-use Rattle.k_alone.specs.Memory.{Memory, Shows, table, waiting, waiting_of, with_word, with_queue, with_ready, with_numbers}
-use Rattle.k_alone.specs.Sound.{IsCaller, IsContext, IsEntry, IsReady, IsSoundContexts, IsSoundMemory, IsSoundNumbers, IsSoundWords}
-use Rattle.k_alone.specs.Alone.{IsFreed, Makes, begun, call_of, current}
+use Rattle.k_shown.specs.Leaves.{made_by, state_told}
+use Rattle.k_shown.specs.Memory.{Memory, Shows, table, waiting, waiting_of, with_word, with_queue, with_ready, with_numbers}
+use Rattle.k_shown.specs.Sound.{IsCaller, IsContext, IsEntry, IsReady, IsSoundContexts, IsSoundMemory, IsSoundNumbers, IsSoundWords}
+use Rattle.k_alone.specs.Alone.{IsFreed, Makes, begun, current}
+use Rattle.k_shown.specs.Rows.{Answers, IsIn, call_of, next_serial, told}
+use Rattle.k_shown.proofs.Alike.{alike_from, caller_in, may_call, present_same}
+use Rattle.k_shown.proofs.SendRows.{same_turned}
+use Rattle.k_shown.proofs.TableRows.{absent_row, killed_replies, kills_is, own_row}
 use Rattle.k_alone.specs.DestroyAlone.{IsDestroyCall, destroy_begun, destroy_table}
-use Rattle.k_alone.proofs.Shown.{shows_called, shows_answered}
-use Rattle.k_alone.proofs.States.{may_call, present_is, caller_present, apart_numbers}
-use Rattle.k_alone.proofs.Left.{leaves_all}
+use Rattle.k_shown.proofs.Shown.{shows_called}
+use Rattle.k_shown.proofs.States.{caller_present, apart_numbers}
+use Rattle.k_shown.proofs.Left.{leaves_all}
 use Rattle.k_alone.proofs.Gone.{IsGone, at_level, cut_is, gone_kept, gone_later, ids_of, is_not, level_append}
 use Rattle.k_alone.proofs.DestroyLeft.{killed_left}
 use Rattle.k_alone.proofs.Made.{makes, makes_one, replay_on, reply_first}
 use Rattle.k_alone.proofs.Unlinked.{listed_map, unlinked_waiting, unlinked_entries}
 use Rattle.k_alone.proofs.Killing.{Half, Listed, fewer}
-use Rattle.k_alone.proofs.Killed.{dead_sound, half_killed, half_unlisted, half_context, half_queue, replies_killed}
+use Rattle.k_alone.proofs.Killed.{dead_sound, half_killed, half_unlisted, half_context, half_queue}
 use Rattle.k_alone.proofs.FreeRuns.{Frees, at, call_state, hand_with, senders_freed, AllTaken}
 use Rattle.k_alone.proofs.VisitRuns.{HalfAt, Visited, visits}
 use Rattle.k_alone.proofs.DestroyRuns.{once_each, waiters, removed, runs_own, runs_absent, runs_killed, runs_removed, runs_ended}
 use Rattle.k_alone.proofs.Runs.{Goes, then}
-use Rattle.k_alone.proofs.SendRuns.{present_same}
-
--- THE ROWS OF A DESTROY
-
-module _ (k : KernelState) (me : ThreadId) (serial : ℕ) (who : ThreadId) where
-  destroy_own : same_id me who ≡ true → destroy k me serial who ≡ (answered k me serial reply.Own, outcome.Own)
-  unfolding destroy
-  destroy_own e = rw e refl
-
-  destroy_absent : same_id me who ≡ false → is_present k who ≡ false → destroy k me serial who ≡ (answered k me serial (reply.Absent (found_of k who.number)), outcome.Absent (found_of k who.number))
-  unfolding destroy
-  destroy_absent e p = rw (e, p) refl
-
-  destroy_kills : same_id me who ≡ false → is_present k who ≡ true → destroy k me serial who ≡ (answered (killed k who) me serial reply.Killed, outcome.Killed)
-  unfolding destroy
-  destroy_kills e p = rw (e, p) refl
 
 replay_append : (a b new : KernelState) (es fs : List Entry) → IsReplay a es b → IsReplay b fs new → IsReplay a (es ++ fs) new
 replay_append a b new [] fs h g = subst (λ (x : KernelState). IsReplay x fs new) h g
@@ -212,41 +200,30 @@ module _ (c : DestroyCall) (m : Memory) (k : KernelState) (own : StateWord) (h :
   shown_called : Shows m (call_state c k)
   shown_called = shows_called m k c.caller ((k.place c.caller.number).serial + 1) h
 
-  turned : (a b : ThreadId) → same_id a b ≡ same_id b a
-  turned a b = λ d. eqb_turned a.number b.number d && eqb_turned a.version b.version d
-    where
-      eqb_turned : (x y : ℕ) → eqb x y ≡ eqb y x
-      eqb_turned x y = elim (cases_eq x y) [ inl e ↦ eq-eqb x y e ∙ sym (eq-eqb y x (sym e)) | inr ne ↦ ne_eqb x y ne ∙ sym (ne_eqb y x (λ e. ne (sym e))) ]
+  runs : IsIn m c.caller status.Run
+  runs = caller_in m c.caller own call
 
-  refused_law : (r : Reply) (o : Outcome) → ((s : State) → state_told (Some r) s ≡ s) → made_by o ≡ [] → destroy (call_state c k) c.caller ((k.place c.caller.number).serial + 1) c.who ≡ (answered (call_state c k) c.caller ((k.place c.caller.number).serial + 1) r, o) → Goes (destroy_table c (current k c.caller)) (begun m (destroy_begun c)) (at m Ended (hand_with no_numbers no_senders no_ready) (destroyed c (current k c.caller) o ∷ []) (went.Ends r)) → Law
-  unfolding acted made
+  refused_law : (r : Reply) (o : Outcome) → ((s : State) → state_told (Some r) s ≡ s) → made_by o ≡ [] → Answers k c.caller (phase.Destroy c.who) o r m → Goes (destroy_table c (current k c.caller)) (begun m (destroy_begun c)) (at m Ended (hand_with no_numbers no_senders no_ready) (destroyed c (current k c.caller) o ∷ []) (went.Ends r)) → Law
   refused_law r o kept nobody row goes =
       let me = c.caller in
-      let s = (k.place me.number).serial + 1 in
-      makes_one (destroy_table c (current k me)) (begun m (destroy_begun c)) _ k (answered (call_state c k) me s r) (call_of k me (phase.Destroy c.who)) o (record { id = me; serial = s; reply = r } ∷ [])
-      h good (may_call m k h me own (phase.Destroy c.who) call) row goes (ap (λ (x : Entry). x ∷ []) (entry_is o))
+      let s = next_serial k me in
+      makes_one (destroy_table c (current k me)) (begun m (destroy_begun c)) _ k _ (call_of k me (phase.Destroy c.who)) o (told me s r ∷ [])
+      h good row goes (ap (λ (x : Entry). x ∷ []) (entry_is o))
       (record { size = refl; version = λ n. refl; dead = λ n. refl; context = refl; numbers = refl; room = λ n. refl })
-      (shows_answered m (call_state c k) me s r shown_called) good.words refl
+      good.words
       (reply_first me s r [], called_runs)
-      (leaves_all (call_of k me (phase.Destroy c.who)) o (record { id = me; serial = s; reply = r } ∷ []) m good.words.ready (refl, tt) nobody (ap (λ (x : Option Reply). state_told x (m.word me.number).state) (reply_first me s r []) ∙ kept (m.word me.number).state))
+      (leaves_all (call_of k me (phase.Destroy c.who)) o (told me s r ∷ []) m good.words.ready (refl, tt) nobody (ap (λ (x : Option Reply). state_told x (m.word me.number).state) (reply_first me s r []) ∙ kept (m.word me.number).state))
 
   own_law : same_id c.who c.caller ≡ true → Law
-  own_law same = refused_law reply.Own outcome.Own (λ _. refl) refl (destroy_own (call_state c k) c.caller ((k.place c.caller.number).serial + 1) c.who (turned c.caller c.who ∙ same)) (runs_own c (current k c.caller) m own good call same)
-
-  there_is : is_present (call_state c k) c.who ≡ is_present_in (m.word c.who.number) c.who
-  there_is = present_is m (call_state c k) shown_called c.who ∙ sym (present_same m c.who)
-
-  found_is : found_of (call_state c k) c.who.number ≡ found_in c.who.number (m.word c.who.number)
-  found_is = λ d. record { id = record { number = c.who.number; version = shown_called.version c.who.number d }; status = shown_called.status c.who.number d }
+  own_law same = refused_law reply.Own outcome.Own (λ _. refl) refl (own_row m m k c.caller h runs c.who same (alike_from m m refl (λ n. refl) (λ n. refl))) (runs_own c (current k c.caller) m own good call same)
 
   absent_law : same_id c.who c.caller ≡ false → is_present_in (m.word c.who.number) c.who ≡ false → Law
   absent_law other gone =
       refused_law (reply.Absent (found_in c.who.number (m.word c.who.number))) (outcome.Absent (found_in c.who.number (m.word c.who.number))) (λ _. refl) refl
-      (rw (← found_is) (destroy_absent (call_state c k) c.caller ((k.place c.caller.number).serial + 1) c.who (turned c.caller c.who ∙ other) (there_is ∙ gone)))
+      (absent_row m m k c.caller h runs c.who other gone (alike_from m m refl (λ n. refl) (λ n. refl)))
       (runs_absent c (current k c.caller) m own good call other gone)
 
   killed_law : same_id c.who c.caller ≡ false → is_present_in (m.word c.who.number) c.who ≡ true → Law
-  unfolding acted made
   killed_law other here =
       let me = c.caller in
       let v = c.who.number in
@@ -257,11 +234,11 @@ module _ (c : DestroyCall) (m : Memory) (k : KernelState) (own : StateWord) (h :
       let q = m.queue v in
       let present : is_present (table m) c.who ≡ true = sym (present_same m c.who) ∙ here in
       let version : (m.word v).version ≡ c.who.version = eqb-true (m.word v).version c.who.version (and_parts (eqb (m.word v).version c.who.version) (not (is_dead (shows (m.word v).state))) present).0 in
-      let ne = apart_numbers m me c.who (caller_present m me own call) present (turned me c.who ∙ other) in
+      let ne = apart_numbers m me c.who (caller_present m me own call) present (same_turned me c.who ∙ other) in
       let living : ((table m).place v).status ≢ status.Dead = λ e. false≢true (sym (not-true (is_dead (shows (m.word v).state)) (and_parts (eqb (m.word v).version c.who.version) (not (is_dead (shows (m.word v).state))) present).1) ∙ ap is_dead e) in
       let inside : v < m.size = inside_from (table m) v good.lists living in
       let counted : v < c.count = let cs = parts.count in omega (arith, inside) in
-      let row = destroy_kills kc me s c.who (turned me c.who ∙ other) (there_is ∙ here) in
+      let row = kills_is m m k me h runs c.who other here in
       let mk = with_word m v (dead_word c.who.version) in
       let k2 = answered (killed kc c.who) me s reply.Killed in
       let e = destroyed c serials outcome.Killed in
@@ -297,7 +274,7 @@ module _ (c : DestroyCall) (m : Memory) (k : KernelState) (own : StateWord) (h :
       (then t a3 a4 ended f2.goes (runs_ended c serials mf m.numbers f2.queue f2.ready (before ++ f2.freed) f2.went)))) in
       let freed_all = f1.freed ++ f2.freed in
       let line : ReplyLine = record { id = me; serial = s; reply = reply.Killed } in
-      let k2_replies : k2.replies ≡ k.replies ++ line ∷ [] = ap (λ (x : List ReplyLine). x ++ line ∷ []) (replies_killed kc c.who) in
+      let k2_replies : k2.replies ≡ k.replies ++ line ∷ [] = ap (λ (x : List ReplyLine). x ++ line ∷ []) (killed_replies kc c.who) in
       let contexts : mf.context ≡ upd m.context v Empty = f2.contexts ∙ ap (λ (f : ℕ → ContextWord). upd f v Empty) f1.contexts in
       let gone1 = gone_later m c.who me mb mf f2.stays f1.lines f1.woken in
       let all_gone = all_append (IsGone m c.who me mf) f1.lines f2.lines gone1 f2.woken in
@@ -309,7 +286,7 @@ module _ (c : DestroyCall) (m : Memory) (k : KernelState) (own : StateWord) (h :
         good = good;
         frees = all_append IsFreed f1.freed f2.freed f1.frees f2.frees;
         entries = ap (λ (x : Entry). x ∷ freed_all) (entry_is outcome.Killed);
-        legal = replay_on k k2 f2.state (call_of k me (phase.Destroy c.who)) outcome.Killed freed_all (may_call m k h me own (phase.Destroy c.who) call) row (replay_append k2 f1.state f2.state f1.freed f2.freed f1.legal f2.legal);
+        legal = replay_on k k2 f2.state (call_of k me (phase.Destroy c.who)) outcome.Killed freed_all (may_call m k h me (phase.Destroy c.who) runs) row (replay_append k2 f1.state f2.state f1.freed f2.freed f1.legal f2.legal);
         shows = shown_end c m kc shown_called good parts inside mf f2.state f2.half f2.held ns;
         size = f2.half.size;
         room = f2.half.room;

@@ -30,12 +30,12 @@ use Rattle.k_model.specs.Maps.{upd}
 use Rattle.k_model.specs.State.{KernelState, is_dead, is_present, is_run, same_id}
 use Rattle.k_model.proofs.Lists.{all_filter, all_map, all_weaker}
 use Rattle.k_model.proofs.Maps.{upd_cases}
-use Rattle.k_alone.specs.Memory.{Memory, table, waiting, waiting_of, with_numbers}
-use Rattle.k_alone.specs.Leaves.{IsWoken, Leaves, mail_with, moved_word, pushed_by, result_with, state_told}
-use Rattle.k_alone.specs.Sound.{IsCaller, IsReady, IsSoundMemory}
+use Rattle.k_shown.specs.Memory.{Memory, table, waiting, waiting_of, with_numbers}
+use Rattle.k_shown.specs.Leaves.{IsWoken, Leaves, mail_with, moved_word, pushed_by, result_with, state_told}
+use Rattle.k_shown.specs.Sound.{IsCaller, IsReady, IsSoundMemory}
 use Rattle.k_alone.proofs.Gone.{IsGone, at_level, filter_all, filter_same, ids_of, is_not}
 use Rattle.k_alone.proofs.Killing.{Half}
-use Rattle.k_alone.proofs.Left.{Turns, no_other, self_told, turned_same, turned_word, woken_turns}
+use Rattle.k_shown.proofs.Left.{Turns, no_other, self_told, turned_same, turned_word, woken_turns}
 use Rattle.k_alone.proofs.Made.{reply_first}
 use Rattle.k_alone.proofs.VisitRuns.{Visited}
 

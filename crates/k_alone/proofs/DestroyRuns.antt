@@ -36,8 +36,8 @@ use Rattle.k_model.specs.State.{Waiting, id_of, same_id}
 use Rattle.k_model.specs.Sound.{IsQueued, numbers}
 use Rattle.k_model.proofs.Lists.{all_of_map, all_weaker}
 use Rattle.k_model.proofs.Maps.{upd_other}
-use Rattle.k_alone.specs.Memory.{Memory, table, waiting_of, with_word, with_queue, with_context, with_ready, with_numbers}
-use Rattle.k_alone.specs.Sound.{IsCaller, IsSoundMemory}
+use Rattle.k_shown.specs.Memory.{Memory, table, waiting_of, with_word, with_queue, with_context, with_ready, with_numbers}
+use Rattle.k_shown.specs.Sound.{IsCaller, IsSoundMemory}
 use Rattle.k_alone.specs.Alone.{Run, begun}
 use Rattle.k_alone.specs.DestroyAlone.{DestroyAt, destroy_begun, destroy_table}
 use Rattle.k_alone.proofs.Runs.{Goes, arrived, can, load, on, one, removes, won, writes}

@@ -37,15 +37,15 @@ use Rattle.k_model.specs.Step.{acted, called}
 use Rattle.k_model.specs.History.{IsReplay}
 use Rattle.k_model.proofs.Maps.{upd_same, upd_other}
 use Rattle.k_model.proofs.Lists.{all_weaker}
-use Rattle.k_alone.specs.Memory.{Memory, with_word}
+use Rattle.k_shown.specs.Memory.{Memory, with_word}
 use Rattle.k_alone.specs.Alone.{CanStep, Run, IsFreed, current}
 use Rattle.k_alone.specs.DestroyAlone.{DestroyAt, destroy_table}
-use Rattle.k_alone.proofs.Kept.{pushed}
+use Rattle.k_shown.proofs.Kept.{pushed}
 use Rattle.k_alone.proofs.Killing.{Half, sending_waits, may_free, fewer, freed_half, freed_state, freed_sound, off_nowhere, pushed_half}
 use Rattle.k_alone.proofs.Gone.{IsGone, at_level, freed_gone, freed_stays, ids_of, level_append, lists_off, lists_on}
 use Rattle.k_alone.proofs.Made.{replay_on}
 use Rattle.k_alone.proofs.Runs.{Goes, arrived, can, loads, on, one, then, won, writes}
-use Rattle.k_alone.proofs.States.{alive_version}
+use Rattle.k_shown.proofs.States.{alive_version}
 
 abbrev pub at : Memory → DestroyLocation → Hand → List Entry → Went → Run DestroyAt
 at m l h es w = record { memory = m; section = record { location = l; hand = h }; entries = es; went = w }

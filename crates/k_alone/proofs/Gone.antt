@@ -18,10 +18,10 @@ use Rattle.k_threads.specs.Words.{freed_word, thread_at}
 use Rattle.k_model.specs.State.{KernelState, same_id}
 use Rattle.k_model.proofs.Lists.{all_filter, all_map, all_weaker}
 use Rattle.k_model.proofs.Maps.{upd_same, upd_other}
-use Rattle.k_alone.specs.Memory.{Memory, with_word}
-use Rattle.k_alone.proofs.Kept.{pushed}
+use Rattle.k_shown.specs.Memory.{Memory, with_word}
+use Rattle.k_shown.proofs.Kept.{pushed}
 use Rattle.k_alone.proofs.Killing.{Half, Waits, not_caller, waits_same}
-use Rattle.k_alone.proofs.Left.{pushed_list}
+use Rattle.k_shown.proofs.Left.{pushed_list}
 
 abbrev pub ids_of : List ReplyLine → List ThreadId
 ids_of lines = map (λ line. line.id) lines

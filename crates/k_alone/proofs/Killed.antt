@@ -21,19 +21,15 @@ use Rattle.k_model.specs.Step.{killed}
 use Rattle.k_model.proofs.Maps.{upd_cases, upd_same, upd_other}
 use Rattle.k_model.proofs.Lists.{all_weaker}
 use Rattle.k_model.proofs.Places.{killed_version, killed_serial, killed_status, killed_joined}
-use Rattle.k_alone.specs.Memory.{Memory, Shows, table, with_word, with_queue, with_context, with_ready, joined_of}
-use Rattle.k_alone.specs.Sound.{IsReady, IsSoundMemory}
-use Rattle.k_alone.proofs.Kept.{room_kept}
+use Rattle.k_shown.specs.Memory.{Memory, Shows, table, with_word, with_queue, with_context, with_ready, joined_of}
+use Rattle.k_shown.specs.Sound.{IsReady, IsSoundMemory}
+use Rattle.k_shown.proofs.Kept.{room_kept}
 use Rattle.k_alone.proofs.Killing.{Half, Listed}
 use Rattle.k_alone.proofs.Unlinked.{has_stands, listed_map, without_it_all, without_it_once}
 
 size_killed : (k : KernelState) (who : ThreadId) → (killed k who).size ≡ k.size
 unfolding killed
 size_killed k who = refl
-
-pub replies_killed : (k : KernelState) (who : ThreadId) → (killed k who).replies ≡ k.replies
-unfolding killed
-replies_killed k who = refl
 
 dead_sends : (to : ThreadId) → status.Dead ≡ status.Sending to → ⊥
 dead_sends to e = cc

@@ -19,10 +19,10 @@ use Rattle.k_model.specs.State.{KernelState, Place, answered, is_dead, is_presen
 use Rattle.k_model.specs.Step.{killed, may_act}
 use Rattle.k_model.proofs.Maps.{upd_tells, upd_cases, upd_other}
 use Rattle.k_model.proofs.Lists.{all_weaker, all_push}
-use Rattle.k_alone.specs.Memory.{Memory, table, with_word, joined_of}
-use Rattle.k_alone.specs.Sound.{IsReady}
-use Rattle.k_alone.proofs.Kept.{pushed, list_cases}
-use Rattle.k_alone.proofs.States.{on_word}
+use Rattle.k_shown.specs.Memory.{Memory, table, with_word, joined_of}
+use Rattle.k_shown.specs.Sound.{IsReady}
+use Rattle.k_shown.proofs.Kept.{pushed, list_cases}
+use Rattle.k_shown.proofs.States.{on_word}
 
 -- who stands in a ready list: a thread that may, or the victim, as long as `V`
 abbrev pub Listed : Type 0 → ThreadId → Memory → ℕ → ThreadId → Type 0

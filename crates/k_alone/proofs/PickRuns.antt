@@ -34,13 +34,14 @@ use Rattle.k_ipc.specs.Words.{freed, on_in, sender_of, message_of}
 use Rattle.k_model.specs.State.{is_present}
 use Rattle.k_model.specs.State.{is_dead as is_dead_status}
 use Rattle.k_model.proofs.Maps.{upd_same, upd_other}
-use Rattle.k_alone.specs.Memory.{Memory, table, with_word, with_queue}
-use Rattle.k_alone.specs.Sound.{IsPicker, IsDelivered, IsSoundMemory}
+use Rattle.k_shown.specs.Memory.{Memory, table, with_word, with_queue}
+use Rattle.k_shown.specs.Sound.{IsPicker, IsDelivered, IsSoundMemory}
 use Rattle.k_alone.specs.Alone.{Run, begun, MakesNothing}
 use Rattle.k_alone.specs.ReceiveAlone.{receive_table, pick_call}
-use Rattle.k_alone.proofs.Kept.{off_nowhere, pushed}
+use Rattle.k_shown.proofs.Kept.{off_nowhere, pushed}
 use Rattle.k_alone.proofs.Receives.{taken_word, without_entry, words_taken}
-use Rattle.k_alone.proofs.States.{on_with, on_word}
+use Rattle.k_shown.proofs.States.{on_word}
+use Rattle.k_shown.specs.Words.{on_with}
 use Rattle.k_alone.proofs.Made.{same_self}
 use Rattle.k_alone.proofs.Runs.{Goes, arrived, can, load, on, one, won, writes}
 use Rattle.k_alone.proofs.SendRuns.{read_word, put_back_same}

@@ -1,5 +1,5 @@
 -- What a receive, or a pick, leaves of words, mails and lists.
-use Rattle.std.proofs.Common.{◌≡◌, ◌≢◌, ℕ, Bool, true, false, ◌||◌, List, [], ◌∷◌, refl, sym, ap, ◌∙◌, subst, Option, Some, inl}
+use Rattle.std.proofs.Common.{◌≡◌, ◌≢◌, ℕ, Bool, true, false, ◌||◌, List, [], ◌∷◌, refl, sym, ap, ◌∙◌, subst, Option, Some, inl, inr}
 use Rattle.std.proofs.lemmas.Bool.{false≢true, ne_eqb}
 use Rattle.std.specs.List.{AllByRecursion}
 use Rattle.k_ids.specs.declared.threads.ThreadId.{ThreadId}
@@ -20,20 +20,32 @@ use Rattle.k_ids.specs.declared.state_word.StateWord.{StateWord}
 use Rattle.k_senders.specs.declared.entries.SenderEntry.{SenderEntry}
 use Rattle.k_senders.specs.Queue.{Queue, number_of}
 use Rattle.k_locks.specs.Shown.{shows}
-use Rattle.k_ipc.specs.Words.{message_of, sender_of}
+use Rattle.k_ipc.specs.Words.{is_joined_to, message_of, sender_of}
 use Rattle.k_model.specs.Answers.{reply_to}
 use Rattle.k_model.specs.Maps.{upd}
-use Rattle.k_model.specs.State.{same_id}
+use Rattle.k_model.specs.State.{is_run, same_id}
 use Rattle.k_model.specs.Step.{status_after}
 use Rattle.k_model.proofs.Maps.{upd_cases, upd_same, upd_other}
-use Rattle.k_alone.specs.Memory.{Memory, waiting, with_word}
-use Rattle.k_alone.specs.Leaves.{IsWoken, Leaves, pushed_by, state_told, state_with}
-use Rattle.k_alone.specs.Sound.{IsSoundMemory}
-use Rattle.k_alone.proofs.Kept.{SameThreads, pushed}
-use Rattle.k_alone.proofs.Left.{Turns, all_stay, caller_turns, leaves_from, lists_kept, lists_pushed, mine_pushed, no_other, self_told, shorter, taken_turns}
-use Rattle.k_alone.proofs.Made.{reply_first, sent_line}
+use Rattle.k_shown.specs.Memory.{Memory, waiting, with_word}
+use Rattle.k_shown.specs.Leaves.{IsWoken, Leaves, moved_word, pushed_by, state_told, state_with}
+use Rattle.k_shown.specs.Sound.{IsSoundMemory}
+use Rattle.k_shown.proofs.Kept.{SameThreads, pushed}
+use Rattle.k_shown.proofs.Left.{Turns, all_stay, caller_turns, leaves_from, lists_kept, lists_pushed, mine_pushed, no_other, moved_in, self_told, shorter, woken_turns}
+use Rattle.k_alone.proofs.Made.{reply_first}
+use Rattle.k_shown.specs.Rows.{sent_line}
 use Rattle.k_alone.proofs.Receives.{receiving, taken_word, without_entry}
-use Rattle.k_alone.proofs.States.{on_with}
+use Rattle.k_shown.specs.Words.{on_with}
+
+-- that of a sender whose message is taken
+pub taken_turns : (m : Memory) (who me : ThreadId) (t : ℕ) (j : Bool) (n : ℕ) → (m.word t).state ≡ state.Sending me j → n ≡ t → Turns m who n (taken_word j me (m.word t))
+taken_turns m who me t true n st e = inr (
+  moved_in (state.Receiving (Some me)) (m.word t) refl ∙ ap (moved_word (state.Receiving (Some me))) (ap m.word (sym e)),
+  inr (λ q. let one : status.Receiving (Some me) ≡ status.Sending me = q ∙ ap (λ (j : ℕ). shows (m.word j).state) e ∙ ap shows st in cc),
+)
+taken_turns m who me t false n st e = woken_turns m who t (state.Run result4.Sent) n refl (ap (λ (s : State). is_run (shows s)) st) e
+
+pub or_joined : (s : State) (me : ThreadId) (j on : Bool) → s ≡ state.Sending me j → (is_joined_to s || on) ≡ (j || on)
+or_joined s me j on e = ap (λ (x : State). is_joined_to x || on) e
 
 receives_runs : (from : Option ThreadId) → status.Receiving from ≡ status.Run → ⊥
 receives_runs from e = cc

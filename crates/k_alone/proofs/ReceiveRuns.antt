@@ -40,16 +40,18 @@ use Rattle.k_model.specs.State.{is_present}
 use Rattle.k_model.specs.State.{is_dead as is_dead_status}
 use Rattle.k_model.specs.Step.{is_own}
 use Rattle.k_model.proofs.Maps.{upd_same, upd_cases}
-use Rattle.k_alone.specs.Memory.{Memory, table, with_word, with_queue}
-use Rattle.k_alone.specs.Sound.{IsCaller, IsSoundMemory, IsSoundWords}
+use Rattle.k_shown.specs.Memory.{Memory, table, with_word, with_queue}
+use Rattle.k_shown.specs.Sound.{IsCaller, IsSoundMemory, IsSoundWords}
 use Rattle.k_alone.specs.Alone.{Run, begun}
 use Rattle.k_alone.specs.ReceiveAlone.{receive_table}
-use Rattle.k_alone.proofs.Kept.{off_nowhere, pushed}
+use Rattle.k_shown.proofs.Kept.{off_nowhere, pushed}
 use Rattle.k_alone.proofs.Receives.{taking, taken_word, without_entry, receiving, words_taken}
-use Rattle.k_alone.proofs.States.{on_with, on_word}
+use Rattle.k_shown.proofs.States.{on_word}
+use Rattle.k_shown.specs.Words.{on_with}
 use Rattle.k_alone.proofs.Made.{same_self}
 use Rattle.k_alone.proofs.Runs.{Goes, arrived, can, load, on, one, won, writes}
-use Rattle.k_alone.proofs.SendRuns.{dead_same, read_word, caller_read, caller_there, put_back_same}
+use Rattle.k_alone.proofs.SendRuns.{read_word, caller_read, caller_there, put_back_same}
+use Rattle.k_shown.proofs.Alike.{dead_same}
 
 abbrev pub sec : ReceiveCall → StateWord → ReceiveLocation → ℕ → ReceiveSection
 sec c own l d = record { call = c; own = own; location = l; done = d }
@@ -76,7 +78,7 @@ module _ (c : ReceiveCall) (serial : ℕ) (m : Memory) (own : StateWord) (good :
   -- nobody waits, and neither does the caller
   pub runs_nobody : is_own c.from c.caller ≡ false → c.picks ≡ false → first_admitted c.from (m.queue c.caller.number).entries ≡ None → c.zero ≡ true → Goes (receive_table serial) (begun m (receive_of c own)) (receive_at m (sec c own (location.Outside (Ended (went.Ends reply.Nobody))) 3) (entry_by serial c (act.Call (phase.Receive c.from c.zero)) outcome.Nobody ∷ []) (went.Ends reply.Nobody))
   unfolding lock_bits
-  runs_nobody other picks none soon =
+  runs_nobody other picks none zero =
       let t = receive_table serial in
       let q = m.queue c.caller.number in
       let e = entry_by serial c (act.Call (phase.Receive c.from c.zero)) outcome.Nobody in
@@ -85,7 +87,7 @@ module _ (c : ReceiveCall) (serial : ℕ) (m : Memory) (own : StateWord) (good :
       let r2 = receive_at m (sec c own (location.Locked (Release release.Nobody) q) 2) (e ∷ []) went.On in
       let r3 = receive_at m (sec c own (location.Outside (Ended (went.Ends reply.Nobody))) 3) (e ∷ []) (went.Ends reply.Nobody) in
       on t r0 r1 r3 (rw other (record { ask = (refl, tt); tell = (refl, tt) })) (rw (other, picks) refl)
-      (on t r1 r2 r3 (record { ask = (refl, tt); tell = (refl, told c.caller.number) }) (load t r1 c.caller.number refl (good.words.words c.caller.number) ∙ rw (caller_read m c.caller own good call, none, soon, picks) refl)
+      (on t r1 r2 r3 (record { ask = (refl, tt); tell = (refl, told c.caller.number) }) (load t r1 c.caller.number refl (good.words.words c.caller.number) ∙ rw (caller_read m c.caller own good call, none, zero, picks) refl)
       (on t r2 r3 r3 (record { ask = (refl, tt); tell = (refl, tt) }) (one t r2 (step.Release (lock.Thread c.caller.number) (goods.Senders q)) answer.Released m r3.section None (e ∷ []) (went.Ends reply.Nobody) refl refl (put_back_same m c.caller.number) refl refl refl refl) (arrived t r3)))
 
   -- the caller's word while it waits

@@ -16,9 +16,9 @@ use Rattle.k_locks.specs.declared.steps.Step.TheVariants as step
 use Rattle.k_locks.specs.declared.steps.Answer.{Answer}
 use Rattle.k_locks.specs.declared.steps.Answer.TheVariants as answer
 use Rattle.k_locks.specs.declared.steps.Went.{Went}
-use Rattle.k_alone.specs.Memory.{Memory, with_context, with_word}
+use Rattle.k_shown.specs.Memory.{Memory, with_context, with_word}
 use Rattle.k_alone.specs.Alone.{CanStep, Table, Run, stepped, run, answered, performed, answer_at}
-use Rattle.k_alone.proofs.States.{upd_self}
+use Rattle.k_shown.proofs.States.{upd_self}
 
 -- A run leads from one point to another, and the code can make it.
 pub record Goes {S : Type 0} (t : Table S) (a b : Run S) : Type 0 where

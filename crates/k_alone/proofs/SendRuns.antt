@@ -1,5 +1,5 @@
 -- The runs of a send.
-use Rattle.std.proofs.Common.{◌≡◌, ◌≢◌, ℕ, Bool, true, false, not, ◌&&◌, eqb, List, [], ◌∷◌, refl, sym, ap, ◌∙◌, subst, Some, None}
+use Rattle.std.proofs.Common.{◌≡◌, ◌≢◌, ℕ, true, false, List, [], ◌∷◌, refl, sym, ap, ◌∙◌, subst, Some, None}
 use Rattle.std.specs.Option.{IfSome}
 use Rattle.std.specs.Prelude.{if◌then◌else◌}
 use Rattle.k_ids.specs.declared.threads.ThreadId.{ThreadId}
@@ -24,7 +24,7 @@ use Rattle.k_locks.specs.declared.steps.Step.TheVariants as step
 use Rattle.k_locks.specs.declared.steps.Answer.TheVariants as answer
 use Rattle.k_locks.specs.declared.steps.Went.{Went}
 use Rattle.k_locks.specs.declared.steps.Went.TheVariants as went
-use Rattle.k_locks.specs.Shown.{shows, is_dead, is_dead_state, is_present_in}
+use Rattle.k_locks.specs.Shown.{shows, is_dead, is_dead_state}
 use Rattle.k_ipc.specs.declared.send.Manner.{Manner}
 use Rattle.k_ipc.specs.declared.send.Manner.TheVariants as manner
 use Rattle.k_ipc.specs.declared.send.SendCall.{SendCall}
@@ -38,28 +38,19 @@ use Rattle.k_ipc.specs.declared.send.SendLocation.TheVariants as location
 use Rattle.k_ipc.specs.SendTable.{send_of, entry_of, after_receiver, refusal_of, passed_word, waiting_word, passed_end, is_joined}
 use Rattle.k_ipc.specs.Hands.{IsRoom}
 use Rattle.k_ipc.specs.Words.{entry_for}
-use Rattle.k_model.specs.State.{same_id, is_present}
+use Rattle.k_model.specs.State.{same_id}
 use Rattle.k_model.specs.State.{is_dead as is_dead_status}
 use Rattle.k_model.proofs.Maps.{upd_other}
-use Rattle.k_alone.specs.Memory.{Memory, table, with_word, with_mail, with_queue}
-use Rattle.k_alone.specs.Sound.{IsCaller, IsSoundMemory}
+use Rattle.k_shown.specs.Memory.{Memory, with_word, with_mail, with_queue}
+use Rattle.k_shown.specs.Sound.{IsCaller, IsSoundMemory}
 use Rattle.k_alone.specs.Alone.{Run, begun}
 use Rattle.k_alone.specs.SendAlone.{send_table, IsSendCall}
-use Rattle.k_alone.proofs.Kept.{off_nowhere, pushed}
+use Rattle.k_shown.proofs.Alike.{dead_same}
+use Rattle.k_shown.proofs.Kept.{off_nowhere, pushed}
 use Rattle.k_alone.proofs.Sends.{passing, waits_at}
-use Rattle.k_alone.proofs.States.{on_with, on_word, upd_self}
+use Rattle.k_shown.proofs.States.{on_word, upd_self}
+use Rattle.k_shown.specs.Words.{on_with}
 use Rattle.k_alone.proofs.Runs.{Goes, arrived, can, load, on, one, won, writes}
-
-pub dead_same : (s : State) → is_dead_state s ≡ is_dead_status (shows s)
-dead_same state.Dead = refl
-dead_same (state.Run r) = refl
-dead_same (state.Sending to joined) = refl
-dead_same (state.Receiving from) = refl
-dead_same state.Picking = refl
-dead_same state.Ended = refl
-
-pub present_same : (m : Memory) (id : ThreadId) → is_present_in (m.word id.number) id ≡ is_present (table m) id
-present_same m id = ap (λ (b : Bool). eqb (m.word id.number).version id.version && not b) (dead_same (m.word id.number).state)
 
 -- a loaded word is the one that is there
 pub read_word : (m : Memory) (n : ℕ) → IsSoundMemory m → state_word_of (state_bits (m.word n)) ≡ m.word n

@@ -18,8 +18,8 @@ use Rattle.k_locks.specs.Threads.{who_of}
 use Rattle.k_model.specs.State.{Waiting, same_id}
 use Rattle.k_model.specs.Sound.{has_entry, numbers}
 use Rattle.k_model.proofs.Lists.{all_of_map, all_weaker}
-use Rattle.k_alone.specs.Memory.{waiting, waiting_of}
-use Rattle.k_alone.specs.Sound.{IsEntry}
+use Rattle.k_shown.specs.Memory.{waiting, waiting_of}
+use Rattle.k_shown.specs.Sound.{IsEntry}
 
 -- whether an entry is that of the thread
 is_who : (e : SenderEntry) (id : ThreadId) → IsEntry e → IsPartner id → eqb e.who (who_of id) ≡ same_id (sender_of e) id

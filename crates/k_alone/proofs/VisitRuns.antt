@@ -35,10 +35,10 @@ use Rattle.k_model.specs.State.{KernelState, is_dead, same_id}
 use Rattle.k_model.specs.Step.{acted}
 use Rattle.k_model.specs.History.{IsReplay}
 use Rattle.k_model.proofs.Maps.{upd_same, upd_other, upd_cases}
-use Rattle.k_alone.specs.Memory.{Memory, with_word, with_queue}
+use Rattle.k_shown.specs.Memory.{Memory, with_word, with_queue}
 use Rattle.k_alone.specs.Alone.{CanStep, Run, current}
 use Rattle.k_alone.specs.DestroyAlone.{DestroyAt, destroy_table}
-use Rattle.k_alone.proofs.Kept.{pushed}
+use Rattle.k_shown.proofs.Kept.{pushed}
 use Rattle.k_alone.proofs.Killing.{Half, receiving_waits, may_free, fewer, freed_half, freed_state, freed_sound, off_nowhere, pushed_half}
 use Rattle.k_alone.proofs.Killed.{half_queue}
 use Rattle.k_alone.proofs.FreeRuns.{Frees, at, hand_with, call_state, then_rest}

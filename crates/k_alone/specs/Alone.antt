@@ -1,11 +1,10 @@
 -- A section run alone: its steps one after another, each answered by the memory, with no step of another between.
-use Rattle.std.specs.Prelude.{ℕ, zero, suc, ◌+◌, ◌<◌, ◌≡◌, ◌++◌, true, false, List, [], ◌∷◌, Option, Some, None}
+use Rattle.std.specs.Prelude.{ℕ, zero, suc, ◌<◌, ◌≡◌, ◌++◌, true, false, List, [], ◌∷◌, Option, Some, None}
 use Rattle.std.specs.List.{AllByRecursion}
 use Rattle.std.specs.Option.{option_to_list}
 use Rattle.k_ids.specs.declared.threads.ThreadId.{ThreadId}
 use Rattle.k_ids.specs.declared.threads.Status.{Status}
 use Rattle.k_ids.specs.declared.threads.Status.TheVariants as status
-use Rattle.k_ids.specs.declared.calls.Phase.{Phase}
 use Rattle.k_ids.specs.declared.calls.Act.TheVariants as act
 use Rattle.k_ids.specs.declared.calls.Outcome.{Outcome}
 use Rattle.k_ids.specs.declared.calls.Outcome.TheVariants as outcome
@@ -29,12 +28,12 @@ use Rattle.k_locks.specs.declared.steps.Went.{Went}
 use Rattle.k_locks.specs.declared.steps.Went.TheVariants as went
 use Rattle.k_locks.specs.Steps.{answer_of, becomes, goods_returned, lock_taken, word_of}
 use Rattle.k_model.specs.State.{KernelState, is_picking}
-use Rattle.k_model.specs.Step.{called}
 use Rattle.k_model.specs.History.{IsReplay}
 use Rattle.k_model.specs.Answers.{is_waiting, reply_to}
-use Rattle.k_alone.specs.Memory.{Memory, Shows, with_word, with_mail, with_context, with_numbers, with_queue, with_ready}
-use Rattle.k_alone.specs.Leaves.{Leaves}
-use Rattle.k_alone.specs.Sound.{IsSoundMemory}
+use Rattle.k_shown.specs.Rows.{called_by}
+use Rattle.k_shown.specs.Memory.{Memory, Shows, with_word, with_mail, with_context, with_numbers, with_queue, with_ready}
+use Rattle.k_shown.specs.Leaves.{Leaves}
+use Rattle.k_shown.specs.Sound.{IsSoundMemory}
 
 -- ONE STEP ON A MEMORY
 
@@ -139,17 +138,9 @@ Tells (went.Pushed priority) s reply = ⊥
 
 -- THE EVENT
 
--- a thread's next call
-abbrev pub call_of : KernelState → ThreadId → Phase → Event
-call_of k me p = record { who = me; serial = (k.place me.number).serial + 1; act = act.Call p }
-
--- the pick that goes on with a thread's last call
-abbrev pub pick_of : KernelState → ThreadId → Event
-pick_of k me = record { who = me; serial = (k.place me.number).serial; act = act.Pick }
-
 -- each thread's current call, where this one makes its next
 abbrev pub current : KernelState → ThreadId → ℕ → ℕ
-current k me number = ((called k me ((k.place me.number).serial + 1)).place number).serial
+current k me number = ((called_by k me).place number).serial
 
 -- a thread is freed, since the one that it waits for isn't there
 pub record IsFreed (e : Entry) : Type 0 where

@@ -8,7 +8,7 @@ use Rattle.k_threads.specs.Hands.{Hand, hand_asked, nothing}
 use Rattle.k_threads.specs.Destroy.{DestroyLocation, decides, first_of, hand_after, next_of, resume_of, went_of}
 use Rattle.k_threads.specs.DestroyStages.{CanPushAt, IsFit, is_open_at}
 use Rattle.k_model.specs.State.{is_present, same_id}
-use Rattle.k_alone.specs.Memory.{Memory, table}
+use Rattle.k_shown.specs.Memory.{Memory, table}
 use Rattle.k_locks.specs.Steps.{suits}
 use Rattle.k_alone.specs.Alone.{Table}
 

@@ -1,12 +1,12 @@
 // The laws of sections run alone. Each is a function that does nothing, whose contract is the law.
-ghost use Rattle.k_alone.specs.Alone.{Makes, MakesNothing, begun, call_of, current, pick_of};
-ghost use Rattle.k_alone.specs.Boot.{IsOpening, boot, boot_word};
+ghost use Rattle.k_alone.specs.Alone.{Makes, MakesNothing, begun, current};
+ghost use Rattle.k_shown.specs.Rows.{call_of, pick_of};
 ghost use Rattle.k_alone.specs.CreateAlone.{create_begun, create_table};
 ghost use Rattle.k_alone.specs.DestroyAlone.{IsDestroyCall, destroy_begun, destroy_table};
-ghost use Rattle.k_alone.specs.Memory.{Memory, Shows};
+ghost use Rattle.k_shown.specs.Memory.{Memory, Shows};
 ghost use Rattle.k_alone.specs.ReceiveAlone.{IsReceiveCall, pick_call, receive_table};
 ghost use Rattle.k_alone.specs.SendAlone.{Delivers, IsSendCall, send_table};
-ghost use Rattle.k_alone.specs.Sound.{IsCaller, IsDelivered, IsPicker, IsSoundMemory};
+ghost use Rattle.k_shown.specs.Sound.{IsCaller, IsDelivered, IsPicker, IsSoundMemory};
 ghost use Rattle.k_ids.specs.declared.calls.Phase.TheVariants as phase;
 ghost use Rattle.k_ids.specs.declared.state_word.StateWord.{StateWord};
 ghost use Rattle.k_ids.specs.declared.threads.ThreadId.{ThreadId};
@@ -18,18 +18,10 @@ ghost use Rattle.k_ipc.specs.SendTable.{phase_by, send_of};
 ghost use Rattle.k_ipc.specs.Words.{IsPickingOf};
 ghost use Rattle.k_locks.specs.Shown.{is_present_in, shows};
 ghost use Rattle.k_locks.specs.Threads.{IsRunOf};
-ghost use Rattle.k_model.specs.History.{opened};
 ghost use Rattle.k_model.specs.State.{KernelState, same_id, takes_from};
 ghost use Rattle.k_threads.specs.declared.create.CreateCall.{CreateCall};
 ghost use Rattle.k_threads.specs.declared.destroy.DestroyCall.{DestroyCall};
 ghost use Rattle.std.specs.Prelude.{List, false, true, ℕ, ◌+◌, ◌<◌, ◌≡◌, ◌⊎◌};
-
-/// The memory in which a kernel begins is sound, and shows the opening state; each of its threads runs, and may make a call.
-pub fn a_boot_memory_is_sound()
-    ensures sound { (versions : List ℕ) (threads : ℕ) (priority : ℕ → ℕ) → IsOpening versions threads priority → IsSoundMemory (boot versions threads priority) }
-    ensures shows { (versions : List ℕ) (threads : ℕ) (priority : ℕ → ℕ) → IsOpening versions threads priority → Shows (boot versions threads priority) (opened versions threads) }
-    ensures runs { (versions : List ℕ) (threads : ℕ) (priority : ℕ → ℕ) → IsOpening versions threads priority → (n : ℕ) → n < threads → IsCaller (boot versions threads priority) (record { number = n; version = 1 }) (boot_word versions threads priority n) }
-{}
 
 /// A caller's state word is one with which its section may be begun, and so is that of one who picks.
 pub fn a_caller_may_begin_its_section()

@@ -10,7 +10,7 @@ use Rattle.k_ids.specs.StateWords.{IsStateWord}
 use Rattle.k_senders.specs.declared.entries.SenderEntry.{SenderEntry}
 use Rattle.k_senders.specs.Queue.{Queue, without}
 use Rattle.k_senders.specs.Queue.{number_of as number_of_entry}
-use Rattle.k_ready.specs.Lists.{IsOnceEach, list_of, stands, with_list}
+use Rattle.k_ready.specs.Lists.{IsOnceEach, list_of, stands}
 use Rattle.k_ready.proofs.Appended.{once_append}
 use Rattle.k_ids.specs.declared.context_word.ContextWord.{ContextWord}
 use Rattle.k_locks.specs.declared.numbers.Numbers.{Numbers}
@@ -21,10 +21,11 @@ use Rattle.k_model.specs.State.{KernelState, is_dead, is_present}
 use Rattle.k_model.specs.Sound.{IsSound, IsListed}
 use Rattle.k_model.proofs.Maps.{upd_tells, upd_cases}
 use Rattle.k_model.proofs.Lists.{all_weaker, all_push}
-use Rattle.k_alone.specs.Memory.{Memory, Shows, table, with_word, with_mail, with_queue, with_ready, with_context, with_numbers}
+use Rattle.k_shown.specs.Memory.{Memory, Shows, table, with_word, with_mail, with_queue, with_ready, with_context, with_numbers}
 use Rattle.k_locks.specs.Shown.{shows}
-use Rattle.k_alone.specs.Sound.{IsReady, IsSoundReady, IsSoundWords, IsSoundNumbers, IsSoundContexts, IsContext, IsEntry, IsSoundMemory}
-use Rattle.k_alone.proofs.Shown.{same_shown, shows_table, sound_like, listed_like}
+use Rattle.k_shown.specs.Words.{appended}
+use Rattle.k_shown.specs.Sound.{IsReady, IsSoundReady, IsSoundWords, IsSoundNumbers, IsSoundContexts, IsContext, IsEntry, IsSoundMemory}
+use Rattle.k_shown.proofs.Shown.{same_shown, shows_table, sound_like, listed_like}
 
 -- The number keeps its thread, which stays on where it was, and waits for nobody that isn't there.
 pub record Renews (m : Memory) (n : ℕ) (w : StateWord) : Type 0 where
@@ -91,7 +92,7 @@ off_nowhere m n s off p = off_lacks m p n (list_of m.ready.lists p) off (s.ready
 
 -- A thread that is on, and stands in none, is pushed.
 abbrev pub pushed : Memory → ThreadId → ℕ → Memory
-pushed m id p = with_ready m (with_list m.ready p (list_of m.ready.lists p ++ id ∷ []))
+pushed m id p = with_ready m (appended id p m.ready)
 
 -- what the lists are after one is changed
 pub list_cases : (P : List ThreadId → Type 0) (lists : List (List ThreadId)) (p : ℕ) (es : List ThreadId) (q : ℕ) → p < length lists → (q ≡ p → P es) → (q ≢ p → P (list_of lists q)) → P (list_of (set lists p es) q)

@@ -9,9 +9,8 @@ use Rattle.k_ids.specs.declared.state_word.StateWord.{StateWord}
 use Rattle.k_ready.specs.Lists.{Ready}
 use Rattle.k_locks.specs.declared.numbers.Numbers.{Numbers}
 use Rattle.k_model.specs.Step.{last_version}
-use Rattle.k_threads.specs.Hands.{pushed}
-use Rattle.k_threads.specs.Words.{created_word, dead_word}
-use Rattle.k_alone.specs.Memory.{Memory}
+use Rattle.k_shown.specs.Words.{appended, dead_word, new_word}
+use Rattle.k_shown.specs.Memory.{Memory}
 
 -- What a kernel may begin with.
 pub record IsOpening (versions : List ℕ) (threads : ℕ) (priority : ℕ → ℕ) : Type 0 where
@@ -22,7 +21,7 @@ pub record IsOpening (versions : List ℕ) (threads : ℕ) (priority : ℕ → �
 
 abbrev pub boot_word : List ℕ → ℕ → (ℕ → ℕ) → ℕ → StateWord
 boot_word versions threads priority n =
-    if nat_lt n threads then created_word 1 (priority n) else dead_word (slice_index_or versions n 0)
+    if nat_lt n threads then new_word 1 (priority n) else dead_word (slice_index_or versions n 0)
 
 abbrev pub boot_context : ℕ → ℕ → ContextWord
 boot_context threads n = if nat_lt n threads then Clean 1 else Empty
@@ -47,7 +46,7 @@ boot_numbers versions threads priority = record {
 -- The threads are pushed one after another.
 unfoldable pub boot_ready : (ℕ → ℕ) → ℕ → Ready
 boot_ready priority zero = record { lists = replicate 64 []; running = 0 }
-boot_ready priority (suc n) = pushed (record { number = n; version = 1 }) (priority n) (boot_ready priority n)
+boot_ready priority (suc n) = appended (record { number = n; version = 1 }) (priority n) (boot_ready priority n)
 
 abbrev pub boot : List ℕ → ℕ → (ℕ → ℕ) → Memory
 boot versions threads priority = record {

@@ -1,6 +1,6 @@
 -- The words and guarded data that the sections work on, by name, and which state of the sequential specification they show.
 -- Here no carrier is spoken of, and no lock is taken by another.
-use Rattle.std.specs.Prelude.{ℕ, ◌≡◌, Bool, false, List, [], map}
+use Rattle.std.specs.Prelude.{ℕ, ◌/◌, ◌%◌, ◌^◌, ◌≡◌, Bool, false, List, [], map}
 use Rattle.k_ids.specs.declared.state_word.State.{State}
 use Rattle.k_ids.specs.declared.state_word.State.TheVariants as state
 use Rattle.k_ids.specs.declared.state_word.StateWord.{StateWord}
@@ -10,7 +10,8 @@ use Rattle.k_senders.specs.Queue.{Queue}
 use Rattle.k_ready.specs.Lists.{Ready}
 use Rattle.k_locks.specs.declared.numbers.Numbers.{Numbers}
 use Rattle.k_locks.specs.Shown.{shows}
-use Rattle.k_ipc.specs.Words.{message_of, sender_of}
+use Rattle.k_ids.specs.Messages.{message_of_bits}
+use Rattle.k_ids.specs.declared.threads.ThreadId.{ThreadId}
 use Rattle.k_model.specs.Maps.{upd}
 use Rattle.k_model.specs.State.{KernelState, Waiting, Place}
 
@@ -44,6 +45,10 @@ with_queue m number q = record m { queue = upd m.queue number q }
 abbrev pub with_ready : Memory → Ready → Memory
 with_ready m lists = record m { ready = lists }
 
+-- a version has 20 bits
+abbrev pub sender_of : SenderEntry → ThreadId
+sender_of e = record { number = e.who % 64; version = e.who / 64 % 2 ^ 20 }
+
 -- THE ABSTRACTION: what a number shows, by its word and its queue
 
 abbrev pub joined_of : State → Bool
@@ -55,7 +60,7 @@ joined_of state.Picking = false
 joined_of state.Ended = false
 
 abbrev pub waiting_of : SenderEntry → Waiting
-waiting_of e = (sender_of e, message_of e)
+waiting_of e = (sender_of e, message_of_bits e.message)
 
 abbrev pub waiting : Queue → List Waiting
 waiting q = map waiting_of q.entries

@@ -15,10 +15,11 @@ use Rattle.k_model.specs.Maps.{upd}
 use Rattle.k_model.specs.State.{KernelState, is_dead, is_present, same_id}
 use Rattle.k_model.specs.Step.{may_act}
 use Rattle.k_model.proofs.Maps.{upd_tells}
-use Rattle.k_alone.specs.Memory.{Memory, Shows, table}
+use Rattle.k_shown.specs.Memory.{Memory, Shows, table}
 use Rattle.k_locks.specs.Shown.{shows}
-use Rattle.k_alone.specs.Sound.{IsCaller}
-use Rattle.k_alone.proofs.Kept.{Renews}
+use Rattle.k_shown.specs.Sound.{IsCaller}
+use Rattle.k_shown.specs.Words.{on_with}
+use Rattle.k_shown.proofs.Kept.{Renews}
 
 module _ (m : Memory) (k : KernelState) (h : Shows m k) where
   -- presence, by the word
@@ -52,10 +53,6 @@ alive_agrees state.Ended w a d = a.0
 
 pub alive_version : (w : StateWord) → IsStateWord w → is_dead (shows w.state) ≡ false → 1 ≤ w.version
 alive_version w s d = alive_agrees w.state w s.agrees d
-
--- a thread's word with another state, on
-abbrev pub on_with : StateWord → State → StateWord
-on_with w s = record w { on = true; state = s }
 
 live_alive : (s : State) → is_live s ≡ true → is_dead (shows s) ≡ false
 live_alive state.Dead l = sym l

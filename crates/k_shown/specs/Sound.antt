@@ -16,7 +16,7 @@ use Rattle.k_locks.specs.Numbers.{version_at}
 use Rattle.k_locks.specs.Numbers.{is_present as is_there}
 use Rattle.k_model.specs.State.{is_dead, is_present}
 use Rattle.k_model.specs.Sound.{IsSound, IsListed}
-use Rattle.k_alone.specs.Memory.{Memory, table}
+use Rattle.k_shown.specs.Memory.{Memory, table}
 use Rattle.k_locks.specs.Shown.{shows}
 
 -- Who stands in the list of a priority has that priority, is there, and is on.

@@ -15,19 +15,18 @@ use Rattle.k_ready.specs.Lists.{IsOnceEach, list_of, stands}
 use Rattle.k_ready.proofs.Appended.{stands_append}
 use Rattle.k_locks.specs.Numbers.{is_present as is_there}
 use Rattle.k_locks.specs.Shown.{shows}
-use Rattle.k_threads.specs.Hands.{pushed}
-use Rattle.k_threads.specs.Words.{created_word, dead_word}
+use Rattle.k_shown.specs.Words.{appended, dead_word, new_word}
 use Rattle.k_model.specs.State.{is_dead, nowhere}
 use Rattle.k_model.specs.Step.{last_version}
 use Rattle.k_model.specs.History.{opened, opening_place, new_place, dead_place}
 use Rattle.k_model.proofs.Lists.{all_at}
 use Rattle.k_model.proofs.Listed.{opened-listed}
 use Rattle.k_model.proofs.Opening.{opened-sound}
-use Rattle.k_alone.specs.Memory.{Memory, Shows, with_ready}
-use Rattle.k_alone.specs.Sound.{IsCaller, IsContext, IsReady, IsSoundMemory, IsSoundWords}
-use Rattle.k_alone.specs.Boot.{IsOpening, bits_below, boot, boot_context, boot_ready, boot_word, each_below}
-use Rattle.k_alone.proofs.Shown.{Fits, shows_from}
-use Rattle.k_alone.proofs.Kept.{list_cases, pushed_words, sound_memory}
+use Rattle.k_shown.specs.Memory.{Memory, Shows, with_ready}
+use Rattle.k_shown.specs.Sound.{IsCaller, IsContext, IsReady, IsSoundMemory, IsSoundWords}
+use Rattle.k_shown.specs.Boot.{IsOpening, bits_below, boot, boot_context, boot_ready, boot_word, each_below}
+use Rattle.k_shown.proofs.Shown.{Fits, shows_from}
+use Rattle.k_shown.proofs.Kept.{list_cases, pushed_words, sound_memory}
 
 length_each : (f : ℕ → ℕ) (n : ℕ) → length (each_below f n) ≡ n
 unfolding each_below
@@ -74,7 +73,7 @@ ready_none priority (suc n) t small l p =
     (λ _. ready_none priority n t (λ i q. small i (omega (arith, q))) (omega (arith, l)) p)
 
 module _ (versions : List ℕ) (threads : ℕ) (priority : ℕ → ℕ) (o : IsOpening versions threads priority) where
-  word_new : (n : ℕ) → n < threads → boot_word versions threads priority n ≡ created_word 1 (priority n)
+  word_new : (n : ℕ) → n < threads → boot_word versions threads priority n ≡ new_word 1 (priority n)
   word_new n l = rw (lt-ltb n threads l) refl
 
   word_dead : (n : ℕ) → threads ≤ n → boot_word versions threads priority n ≡ dead_word (get_or versions n 0)
@@ -138,7 +137,7 @@ module _ (versions : List ℕ) (threads : ℕ) (priority : ℕ → ℕ) (o : IsO
   words_at (suc n) l =
       let small : n < threads = omega (arith, l) in
       let is = word_new n small in
-      subst (λ (p : ℕ). IsSoundWords (with_ready (boot versions threads priority) (pushed (record { number = n; version = 1 }) p (boot_ready priority n)))) (ap (λ (w : StateWord). w.priority) is)
+      subst (λ (p : ℕ). IsSoundWords (with_ready (boot versions threads priority) (appended (record { number = n; version = 1 }) p (boot_ready priority n)))) (ap (λ (w : StateWord). w.priority) is)
       (pushed_words (boot_at n) (record { number = n; version = 1 }) (words_at n (omega (arith, l))) (ap (λ (w : StateWord). w.version) is) (ap (λ (w : StateWord). is_dead (shows w.state)) is) (ap (λ (w : StateWord). w.on) is)
       (ready_none priority n n (λ i q. o.levels i (omega (arith, q, small))) (omega arith)))
 

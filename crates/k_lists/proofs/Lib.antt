@@ -1,0 +1,5 @@
+pub mod All
+pub mod Distinct
+pub mod Positions
+pub mod Cuts
+pub mod Options

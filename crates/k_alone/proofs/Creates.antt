@@ -21,11 +21,12 @@ use Rattle.k_model.specs.Maps.{upd}
 use Rattle.k_model.specs.State.{is_dead, is_present}
 use Rattle.k_model.specs.Step.{last_version}
 use Rattle.k_model.proofs.Maps.{upd_cases, upd_same, upd_other}
-use Rattle.k_model.proofs.Lists.{all_weaker}
+use Rattle.k_lists.proofs.All.{all_weaker}
 use Rattle.k_shown.specs.Memory.{Memory, table, with_word, with_context}
 use Rattle.k_shown.specs.Words.{new_word}
 use Rattle.k_shown.specs.Sound.{IsReady, IsSoundWords, IsSoundNumbers, IsSoundContexts, IsContext}
 use Rattle.k_shown.proofs.Kept.{pushed, pushed_words, off_nowhere}
+use Rattle.k_shown.proofs.Statuses.{run_sends, run_waits}
 
 -- the context is placed, and the word written
 abbrev pub making : Memory → ThreadId → ℕ → Memory
@@ -42,12 +43,6 @@ dead_off state.Ended w a d = absurd (false≢true d)
 both_dead : (b : Bool) → not b ≡ true → b ≡ true → ⊥
 both_dead true e f = false≢true e
 both_dead false e f = false≢true f
-
-run_sends : (id : ThreadId) → status.Run ≡ status.Sending id → ⊥
-run_sends id e = cc
-
-run_waits : (id : ThreadId) → status.Run ≡ status.Receiving (Some id) → ⊥
-run_waits id e = cc
 
 module _ (m : Memory) (id : ThreadId) (priority : ℕ) (dead : is_dead (shows (m.word id.number).state) ≡ true) (next : id.version ≡ (m.word id.number).version + 1) (young : (m.word id.number).version < last_version) (small : priority < 64) where
   new_sound : IsStateWord (new_word id.version priority)

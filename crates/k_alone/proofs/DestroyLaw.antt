@@ -37,7 +37,7 @@ use Rattle.k_model.specs.History.{IsReplay}
 use Rattle.k_model.specs.Maps.{upd}
 use Rattle.k_model.proofs.Sound.{inside_from}
 use Rattle.k_model.proofs.Maps.{upd_same, upd_other}
-use Rattle.k_model.proofs.Lists.{all_weaker}
+use Rattle.k_lists.proofs.All.{all_append, all_weaker}
 use Rattle.k_model.proofs.Places.{killed_waiting}
 use Rattle.k_shown.specs.Leaves.{made_by, state_told}
 use Rattle.k_shown.specs.Memory.{Memory, Shows, table, waiting, waiting_of, with_word, with_queue, with_ready, with_numbers}
@@ -65,10 +65,6 @@ use Rattle.k_alone.proofs.Runs.{Goes, then}
 replay_append : (a b new : KernelState) (es fs : List Entry) → IsReplay a es b → IsReplay b fs new → IsReplay a (es ++ fs) new
 replay_append a b new [] fs h g = subst (λ (x : KernelState). IsReplay x fs new) h g
 replay_append a b new (e ∷ es) fs h g = (h.0, h.1, replay_append h.0 b new es fs h.2 g)
-
-all_append : {X : Type 0} (P : X → Type 0) (xs ys : List X) → AllByRecursion P xs → AllByRecursion P ys → AllByRecursion P (xs ++ ys)
-all_append P [] ys h g = g
-all_append P (x ∷ xs) ys h g = (h.0, all_append P xs ys h.1 g)
 
 -- THE MEMORY AT THE END
 

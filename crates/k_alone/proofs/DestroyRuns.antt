@@ -34,7 +34,7 @@ use Rattle.k_threads.specs.Words.{dead_word}
 use Rattle.k_threads.specs.Destroy.{LoadCaller, AcquireVictimLock, LoadVictim, CommitKill, ReleaseVictimLock, AcquireReadyForVictim, UnlistVictim, RemoveContext, ReleaseTable, ReleaseVictimLockAbsent, ReleaseTableAbsent, Ended, destroyed, free_first, visit_from}
 use Rattle.k_model.specs.State.{Waiting, id_of, same_id}
 use Rattle.k_model.specs.Sound.{IsQueued, numbers}
-use Rattle.k_model.proofs.Lists.{all_of_map, all_weaker}
+use Rattle.k_lists.proofs.All.{all_of_map, all_weaker}
 use Rattle.k_model.proofs.Maps.{upd_other}
 use Rattle.k_shown.specs.Memory.{Memory, table, waiting_of, with_word, with_queue, with_context, with_ready, with_numbers}
 use Rattle.k_shown.specs.Sound.{IsCaller, IsSoundMemory}

@@ -36,7 +36,7 @@ use Rattle.k_model.specs.State.{KernelState, is_dead}
 use Rattle.k_model.specs.Step.{acted, called}
 use Rattle.k_model.specs.History.{IsReplay}
 use Rattle.k_model.proofs.Maps.{upd_same, upd_other}
-use Rattle.k_model.proofs.Lists.{all_weaker}
+use Rattle.k_lists.proofs.All.{all_weaker}
 use Rattle.k_shown.specs.Memory.{Memory, with_word}
 use Rattle.k_alone.specs.Alone.{CanStep, Run, IsFreed, current}
 use Rattle.k_alone.specs.DestroyAlone.{DestroyAt, destroy_table}

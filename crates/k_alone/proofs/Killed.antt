@@ -19,23 +19,18 @@ use Rattle.k_model.specs.Maps.{upd}
 use Rattle.k_model.specs.State.{KernelState, answered, id_of, is_dead, is_present}
 use Rattle.k_model.specs.Step.{killed}
 use Rattle.k_model.proofs.Maps.{upd_cases, upd_same, upd_other}
-use Rattle.k_model.proofs.Lists.{all_weaker}
+use Rattle.k_lists.proofs.All.{all_weaker}
 use Rattle.k_model.proofs.Places.{killed_version, killed_serial, killed_status, killed_joined}
 use Rattle.k_shown.specs.Memory.{Memory, Shows, table, with_word, with_queue, with_context, with_ready, joined_of}
 use Rattle.k_shown.specs.Sound.{IsReady, IsSoundMemory}
 use Rattle.k_shown.proofs.Kept.{room_kept}
 use Rattle.k_alone.proofs.Killing.{Half, Listed}
 use Rattle.k_alone.proofs.Unlinked.{has_stands, listed_map, without_it_all, without_it_once}
+use Rattle.k_shown.proofs.Statuses.{dead_sends, dead_waits}
 
 size_killed : (k : KernelState) (who : ThreadId) → (killed k who).size ≡ k.size
 unfolding killed
 size_killed k who = refl
-
-dead_sends : (to : ThreadId) → status.Dead ≡ status.Sending to → ⊥
-dead_sends to e = cc
-
-dead_waits : (from : ThreadId) → status.Dead ≡ status.Receiving (Some from) → ⊥
-dead_waits from e = cc
 
 module _ (m : Memory) (k : KernelState) (who me : ThreadId) (serial : ℕ) (h : Shows m k) (good : IsSoundMemory m) (here : is_present (table m) who ≡ true) (ne : me.number ≢ who.number) (runs : (k.place me.number).status ≡ status.Run) where
   version_is : (m.word who.number).version ≡ who.version

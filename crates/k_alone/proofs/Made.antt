@@ -22,6 +22,7 @@ use Rattle.k_shown.specs.Sound.{IsSoundWords, IsSoundNumbers, IsSoundContexts, I
 use Rattle.k_alone.specs.Alone.{Table, Run, Makes, Tells, IsFreed}
 use Rattle.k_shown.proofs.Kept.{SameThreads, sound_memory, sound_state, listed_state, numbers_kept, contexts_kept}
 use Rattle.k_alone.proofs.Runs.{Goes}
+use Rattle.k_shown.proofs.Statuses.{same_self}
 
 replay_sound : (old : KernelState) (es : List Entry) (new : KernelState) → IsSound old → IsReplay old es new → IsSound new
 replay_sound old [] new s h = subst IsSound (sym h) s
@@ -96,9 +97,6 @@ makes_one t start final k k' event o lines h good row g es same words tells leav
     })
 
 -- REPLIES
-
-pub same_self : (id : ThreadId) → same_id id id ≡ true
-same_self id = rw (eq-eqb id.number id.number refl, eq-eqb id.version id.version refl) refl
 
 -- the first line is the reply to its call
 pub reply_first : (me : ThreadId) (serial : ℕ) (r : Reply) (lines : List ReplyLine) → reply_to (record { id = me; serial = serial; reply = r } ∷ lines) me serial ≡ Some r

@@ -39,12 +39,7 @@ use Rattle.k_alone.proofs.ReceiveLeft.{or_joined, pushed_left, taken_left, taken
 use Rattle.k_alone.proofs.Made.{makes_one, reply_first}
 use Rattle.k_alone.proofs.ReceiveLaw.{IsSender, sender_found, present_stays}
 use Rattle.k_alone.proofs.PickRuns.{runs_settled, runs_picked, runs_picked_off, picked}
-
-run_sends : (id : ThreadId) → status.Run ≡ status.Sending id → ⊥
-run_sends id e = cc
-
-run_waits : (id : ThreadId) → status.Run ≡ status.Receiving (Some id) → ⊥
-run_waits id e = cc
+use Rattle.k_shown.proofs.Statuses.{run_sends, run_waits}
 
 any_sends : (id : ThreadId) → status.Receiving None ≡ status.Sending id → ⊥
 any_sends id e = cc

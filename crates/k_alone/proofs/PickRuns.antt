@@ -42,10 +42,10 @@ use Rattle.k_shown.proofs.Kept.{off_nowhere, pushed}
 use Rattle.k_alone.proofs.Receives.{taken_word, without_entry, words_taken}
 use Rattle.k_shown.proofs.States.{on_word}
 use Rattle.k_shown.specs.Words.{on_with}
-use Rattle.k_alone.proofs.Made.{same_self}
 use Rattle.k_alone.proofs.Runs.{Goes, arrived, can, load, on, one, won, writes}
 use Rattle.k_alone.proofs.SendRuns.{read_word, put_back_same}
 use Rattle.k_alone.proofs.ReceiveRuns.{sec, receive_at, freed_is}
+use Rattle.k_shown.proofs.Statuses.{same_self}
 
 module _ (me : ThreadId) (serial : ℕ) (m : Memory) (own : StateWord) (good : IsSoundMemory m) where
   -- what a load is told is a spelling

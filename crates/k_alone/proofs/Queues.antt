@@ -9,21 +9,16 @@ use Rattle.k_senders.specs.declared.entries.SenderEntry.{SenderEntry}
 use Rattle.k_senders.specs.Queue.{number_of, without}
 use Rattle.k_model.specs.State.{Waiting, admits}
 use Rattle.k_model.specs.Sound.{numbers}
-use Rattle.k_model.proofs.Lists.{all_of_map}
+use Rattle.k_lists.proofs.All.{all_inside, all_of_map}
+use Rattle.std.proofs.lemmas.Option.{none-some, same_Some}
 use Rattle.k_ipc.specs.Candidates.{first_admitted}
 use Rattle.k_shown.specs.Memory.{waiting_of}
 use Rattle.k_shown.specs.Rows.{IsFirst, IsUnwanted}
 
-some_none : (e : SenderEntry) → Some e ≡ None → ⊥
-some_none e q = cc
-
-some_same : (e f : SenderEntry) → Some e ≡ Some f → e ≡ f
-some_same e f q = cc
-
 pub admits_none : (from : Option ThreadId) (es : List SenderEntry) → first_admitted from es ≡ None → IsUnwanted from (map waiting_of es)
 admits_none from [] h = tt
 admits_none from (e ∷ es) h = elim (cases_Bool (admits from (waiting_of e).0)) [
-  | inl t ↦ absurd (some_none e (sym (rw t refl) ∙ h))
+  | inl t ↦ absurd (none-some e (sym h ∙ rw t refl))
   | inr t ↦ (t, admits_none from es (sym (rw t refl) ∙ h))
 ]
 
@@ -38,16 +33,11 @@ pub record FoundAt (from : Option ThreadId) (es : List SenderEntry) (e : SenderE
 pub rest_shown : (from : Option ThreadId) (es : List SenderEntry) (e : SenderEntry) (f : FoundAt from es e) → map waiting_of (without (number_of e) es) ≡ map waiting_of f.before ++ map waiting_of f.after
 rest_shown from es e f = ap (map waiting_of) f.rest ∙ map-append waiting_of f.before f.after
 
--- what holds of each holds of the one in the middle
-pub middle : {X : Type 0} (P : X → Type 0) (xs : List X) (y : X) (ys : List X) → AllByRecursion P (xs ++ y ∷ ys) → P y
-middle P [] y ys h = h.0
-middle P (x ∷ xs) y ys h = middle P xs y ys h.1
-
 pub admits_some : (from : Option ThreadId) (es : List SenderEntry) (e : SenderEntry) → IsDistinct eqb (numbers (map waiting_of es)) → first_admitted from es ≡ Some e → FoundAt from es e
 admits_some from [] e d h = absurd cc
 admits_some from (f ∷ es) e d h =
     elim (cases_Bool (admits from (waiting_of f).0)) [
-      | inl t ↦ let same : f ≡ e = some_same f e (sym (rw t refl) ∙ h) in record {
+      | inl t ↦ let same : f ≡ e = same_Some f e (sym (rw t refl) ∙ h) in record {
         before = [];
         after = es;
         first = record { list = ap (λ (x : SenderEntry). waiting_of x ∷ map waiting_of es) same; unwanted = tt; wanted = ap (λ (x : SenderEntry). admits from (waiting_of x).0) (sym same) ∙ t };
@@ -55,7 +45,7 @@ admits_some from (f ∷ es) e d h =
       }
       | inr t ↦ let r = admits_some from es e (IsDistinct-tail eqb (number_of f) (numbers (map waiting_of es)) d) (sym (rw t refl) ∙ h) in
           let head = all_of_map (λ n. eqb (number_of f) n ≡ false) (λ (w : Waiting). w.0.number) (map waiting_of es) (IsDistinct-head eqb (number_of f) (numbers (map waiting_of es)) d) in
-          let there = middle (λ (w : Waiting). eqb (number_of f) w.0.number ≡ false) (map waiting_of r.before) (waiting_of e) (map waiting_of r.after) (subst (AllByRecursion (λ (w : Waiting). eqb (number_of f) w.0.number ≡ false)) r.first.list head) in
+          let there = all_inside (λ (w : Waiting). eqb (number_of f) w.0.number ≡ false) (map waiting_of r.before) (waiting_of e) (map waiting_of r.after) (subst (AllByRecursion (λ (w : Waiting). eqb (number_of f) w.0.number ≡ false)) r.first.list head) in
           record {
             before = f ∷ r.before;
             after = r.after;

@@ -36,25 +36,25 @@ use Rattle.k_alone.specs.ReceiveAlone.{IsReceiveCall, receive_table}
 use Rattle.k_shown.proofs.Kept.{Renews, SameThreads, pushed, pushed_words, off_nowhere, queued_words, all_without, renewed_words, same_threads, numbers_kept, contexts_kept}
 use Rattle.k_shown.proofs.States.{caller_present, renews, upd_twice}
 use Rattle.k_shown.specs.Words.{on_with}
-use Rattle.k_alone.proofs.Queues.{FoundAt, admits_none, admits_some, middle, rest_shown}
+use Rattle.std.proofs.lemmas.Option.{none-some, same_Some}
+use Rattle.k_lists.proofs.All.{all_inside}
+use Rattle.k_alone.proofs.Queues.{FoundAt, admits_none, admits_some, rest_shown}
 use Rattle.k_alone.proofs.Receives.{taking, taken_shows, taken_word, without_entry, receiving, taken_threads, words_taken, receiving_threads, receiving_sound}
 use Rattle.k_shown.proofs.Left.{leaves_all}
 use Rattle.k_alone.proofs.ReceiveLeft.{gone_left, or_joined, pushed_left, sender_turns, taken_left, waits_left}
 use Rattle.k_alone.proofs.Made.{makes, makes_one, replay_on, reply_first}
 use Rattle.k_alone.proofs.ReceiveRuns.{runs_own, runs_nobody, runs_open, runs_closed, runs_gone, runs_taken, runs_pushed}
+use Rattle.k_shown.proofs.Statuses.{run_sends, run_waits, sends_one}
 
 -- whose status is sending
 pub record Sends (s : State) (to : ThreadId) : Type 0 where
   pub joined : Bool
   pub state : s ≡ state.Sending to joined
 
-sending_to : (a b : ThreadId) → status.Sending a ≡ status.Sending b → a ≡ b
-sending_to a b e = cc
-
 pub sends_from : (s : State) (to : ThreadId) → shows s ≡ status.Sending to → Sends s to
 sends_from state.Dead to e = absurd cc
 sends_from (state.Run r) to e = absurd cc
-sends_from (state.Sending a joined) to e = record { joined = joined; state = ap (λ (x : ThreadId). state.Sending x joined) (sending_to a to e) }
+sends_from (state.Sending a joined) to e = record { joined = joined; state = ap (λ (x : ThreadId). state.Sending x joined) (sends_one a to e) }
 sends_from (state.Receiving from) to e = absurd cc
 sends_from state.Picking to e = absurd cc
 sends_from state.Ended to e = absurd cc
@@ -66,7 +66,7 @@ pub record IsSender (m : Memory) (me : ThreadId) (e : SenderEntry) : Type 0 wher
 
 pub sender_found : (m : Memory) (me : ThreadId) (from : Option ThreadId) (e : SenderEntry) → IsSoundMemory m → (m.word me.number).version ≡ me.version → (f : FoundAt from (m.queue me.number).entries e) → IsSender m me e
 sender_found m me from e good v f =
-    let q = middle (IsQueued (table m) me.number) (map waiting_of f.before) (waiting_of e) (map waiting_of f.after) (subst (AllByRecursion (IsQueued (table m) me.number)) f.first.list (good.lists.queued me.number)) in
+    let q = all_inside (IsQueued (table m) me.number) (map waiting_of f.before) (waiting_of e) (map waiting_of f.after) (subst (AllByRecursion (IsQueued (table m) me.number)) f.first.list (good.lists.queued me.number)) in
     let me_is : id_of (table m) me.number ≡ me = λ d. record { number = me.number; version = v d } in
     record { version = q.version; sends = sends_from (m.word (number_of e)).state me (q.status ∙ ap status.Sending me_is) }
 
@@ -135,12 +135,9 @@ module _ (c : ReceiveCall) (m : Memory) (k : KernelState) (own : StateWord) (h :
       let other : is_own c.from me ≡ false = ap (λ (f : Option ThreadId). is_own f me) any in
       makes_one (receive_table s) (begun m (receive_of c own)) _ k waiting_state (call_of k me (phase.Receive c.from c.zero)) outcome.Waits []
       h good (row_waits other none long) (runs_open c s m own good call any parts.receives none long) refl
-      threads_waiting (receiving_sound m me own c.from call good.words parts.from (λ id q. absurd (none_some id (sym any ∙ q))))
+      threads_waiting (receiving_sound m me own c.from call good.words parts.from (λ id q. absurd (none-some id (sym any ∙ q))))
       (refl, rw waits_status refl, rw waits_status refl)
       (waits_left m me own s good call.word call.on (act.Call (phase.Receive c.from c.zero)) c.from threads_waiting)
-    where
-      none_some : (id : ThreadId) → None ≡ Some id → ⊥
-      none_some id e = cc
 
   closed_law : (from : ThreadId) → c.from ≡ Some from → is_own c.from c.caller ≡ false → first_admitted c.from (m.queue c.caller.number).entries ≡ None → c.zero ≡ false → is_present_in (waiting_memory.word from.number) from ≡ true → Law
   closed_law from closed other none long here =
@@ -149,12 +146,9 @@ module _ (c : ReceiveCall) (m : Memory) (k : KernelState) (own : StateWord) (h :
       let there : is_present (table m) from ≡ true = sym (present_stays m waiting_memory threads_waiting from) ∙ (sym (present_same waiting_memory from) ∙ here) in
       makes_one (receive_table s) (begun m (receive_of c own)) _ k waiting_state (call_of k me (phase.Receive c.from c.zero)) outcome.Waits []
       h good (row_waits other none long) (runs_closed c s m own good call from closed other parts.receives none long parts.from here) refl
-      threads_waiting (receiving_sound m me own c.from call good.words parts.from (λ id q. subst (λ (x : ThreadId). is_present (table m) x ≡ true) (one_some from id (sym closed ∙ q)) there))
+      threads_waiting (receiving_sound m me own c.from call good.words parts.from (λ id q. subst (λ (x : ThreadId). is_present (table m) x ≡ true) (same_Some from id (sym closed ∙ q)) there))
       (refl, rw waits_status refl, rw waits_status refl)
       (waits_left m me own s good call.word call.on (act.Call (phase.Receive c.from c.zero)) c.from threads_waiting)
-    where
-      one_some : (a b : ThreadId) → Some a ≡ Some b → a ≡ b
-      one_some a b e = cc
 
   -- the one for whom it waits isn't there: it is freed at once
   gone_law : (from : ThreadId) → c.from ≡ Some from → is_own c.from c.caller ≡ false → first_admitted c.from (m.queue c.caller.number).entries ≡ None → c.zero ≡ false → is_present_in (waiting_memory.word from.number) from ≡ false → Law
@@ -200,12 +194,6 @@ module _ (c : ReceiveCall) (m : Memory) (k : KernelState) (own : StateWord) (h :
         leaves = gone_left m me own s good call.word call.on (phase.Receive c.from c.zero) c.from threads;
         tells = (reply_first me s reply.Gone [], ap (λ p. p.status) (upd_same k2.place n (record (k2.place n) { status = status.Run; joined = false })));
       })
-    where
-      run_sends : (id : ThreadId) → status.Run ≡ status.Sending id → ⊥
-      run_sends id e = cc
-
-      run_waits : (id : ThreadId) → status.Run ≡ status.Receiving (Some id) → ⊥
-      run_waits id e = cc
 
   -- A message is taken.
   module _ (e : SenderEntry) (other : is_own c.from c.caller ≡ false) (some : first_admitted c.from (m.queue c.caller.number).entries ≡ Some e) where

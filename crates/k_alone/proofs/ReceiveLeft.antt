@@ -30,11 +30,12 @@ use Rattle.k_shown.specs.Memory.{Memory, waiting, with_word}
 use Rattle.k_shown.specs.Leaves.{IsWoken, Leaves, moved_word, pushed_by, state_told, state_with}
 use Rattle.k_shown.specs.Sound.{IsSoundMemory}
 use Rattle.k_shown.proofs.Kept.{SameThreads, pushed}
-use Rattle.k_shown.proofs.Left.{Turns, all_stay, caller_turns, leaves_from, lists_kept, lists_pushed, mine_pushed, no_other, moved_in, self_told, shorter, woken_turns}
+use Rattle.k_shown.proofs.Left.{Turns, all_stay, caller_turns, leaves_from, lists_kept, lists_pushed, mine_pushed, no_other, moved_in, shorter, woken_turns}
 use Rattle.k_alone.proofs.Made.{reply_first}
 use Rattle.k_shown.specs.Rows.{sent_line}
 use Rattle.k_alone.proofs.Receives.{receiving, taken_word, without_entry}
 use Rattle.k_shown.specs.Words.{on_with}
+use Rattle.k_shown.proofs.Statuses.{receives_runs, same_self}
 
 -- that of a sender whose message is taken
 pub taken_turns : (m : Memory) (who me : ThreadId) (t : ℕ) (j : Bool) (n : ℕ) → (m.word t).state ≡ state.Sending me j → n ≡ t → Turns m who n (taken_word j me (m.word t))
@@ -46,9 +47,6 @@ taken_turns m who me t false n st e = woken_turns m who t (state.Run result4.Sen
 
 pub or_joined : (s : State) (me : ThreadId) (j on : Bool) → s ≡ state.Sending me j → (is_joined_to s || on) ≡ (j || on)
 or_joined s me j on e = ap (λ (x : State). is_joined_to x || on) e
-
-receives_runs : (from : Option ThreadId) → status.Receiving from ≡ status.Run → ⊥
-receives_runs from e = cc
 
 module _ (m : Memory) (me : ThreadId) (own : StateWord) (serial : ℕ) (good : IsSoundMemory m) (is : m.word me.number ≡ own) (on : own.on ≡ true) where
   abbrev event_of : Act → Event
@@ -112,12 +110,12 @@ module _ (m : Memory) (me : ThreadId) (serial : ℕ) (good : IsSoundMemory m) (e
   woken_all P false p = ((λ f. no_other me me refl f), ((λ _. p refl), tt))
 
   none_pushed : (c : Bool) → (c || (m.word (number_of e)).on) ≡ true → pushed_by m me took (got ∷ sent_line (sender_of e) sent_serial (status_after c me)) ≡ []
-  none_pushed true h = rw (self_told me) refl
-  none_pushed false h = rw (self_told me, other, h) refl
+  none_pushed true h = rw (same_self me) refl
+  none_pushed false h = rw (same_self me, other, h) refl
 
   one_pushed : (c : Bool) → c ≡ false → (m.word (number_of e)).on ≡ false → pushed_by m me took (got ∷ sent_line (sender_of e) sent_serial (status_after c me)) ≡ sender_of e ∷ []
   one_pushed true n h = absurd (false≢true (sym n))
-  one_pushed false n h = rw (self_told me, other, h) refl
+  one_pushed false n h = rw (same_self me, other, h) refl
 
   queue_left : (n : ℕ) → waiting (upd m.queue me.number (without_entry (m.queue me.number) e) n) ≡ waiting (m.queue n) → upd m.queue me.number (without_entry (m.queue me.number) e) n ≡ m.queue n
   queue_left n = upd_cases (λ (x : Queue). waiting x ≡ waiting (m.queue n) → x ≡ m.queue n) m.queue me.number (without_entry (m.queue me.number) e) n

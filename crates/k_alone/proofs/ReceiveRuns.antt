@@ -48,10 +48,10 @@ use Rattle.k_shown.proofs.Kept.{off_nowhere, pushed}
 use Rattle.k_alone.proofs.Receives.{taking, taken_word, without_entry, receiving, words_taken}
 use Rattle.k_shown.proofs.States.{on_word}
 use Rattle.k_shown.specs.Words.{on_with}
-use Rattle.k_alone.proofs.Made.{same_self}
 use Rattle.k_alone.proofs.Runs.{Goes, arrived, can, load, on, one, won, writes}
 use Rattle.k_alone.proofs.SendRuns.{read_word, caller_read, caller_there, put_back_same}
 use Rattle.k_shown.proofs.Alike.{dead_same}
+use Rattle.k_shown.proofs.Statuses.{same_self}
 
 abbrev pub sec : ReceiveCall → StateWord → ReceiveLocation → ℕ → ReceiveSection
 sec c own l d = record { call = c; own = own; location = l; done = d }

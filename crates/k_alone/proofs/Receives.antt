@@ -1,8 +1,8 @@
 -- What a receive makes of a memory: the same threads are there, and its words are sound.
 use Rattle.std.proofs.Common.{◌≡◌, ℕ, Bool, true, false, refl, sym, ap, ◌∙◌, subst, Option, Some}
+use Rattle.std.proofs.lemmas.Option.{same_Some}
 use Rattle.std.specs.Option.{IfSome}
 use Rattle.k_ids.specs.declared.threads.ThreadId.{ThreadId}
-use Rattle.k_ids.specs.declared.threads.Status.TheVariants as status
 use Rattle.k_ids.specs.declared.state_word.Result4.TheVariants as result4
 use Rattle.k_ids.specs.declared.state_word.State.{State}
 use Rattle.k_ids.specs.declared.state_word.State.TheVariants as state
@@ -20,21 +20,7 @@ use Rattle.k_shown.specs.Sound.{IsCaller, IsSoundWords}
 use Rattle.k_shown.proofs.Kept.{Renews, SameThreads, room_kept, same_threads, then_threads, renewed_words}
 use Rattle.k_shown.proofs.States.{renews, alive_version}
 use Rattle.k_shown.specs.Words.{on_with}
-
-receives_sends : (from : Option ThreadId) (id : ThreadId) → status.Receiving from ≡ status.Sending id → ⊥
-receives_sends from id e = cc
-
-receives_one : (from : Option ThreadId) (id : ThreadId) → status.Receiving from ≡ status.Receiving (Some id) → from ≡ Some id
-receives_one from id e = cc
-
-some_one : (a b : ThreadId) → Some a ≡ Some b → a ≡ b
-some_one a b e = cc
-
-run_sends : (id : ThreadId) → status.Run ≡ status.Sending id → ⊥
-run_sends id e = cc
-
-run_waits : (id : ThreadId) → status.Run ≡ status.Receiving (Some id) → ⊥
-run_waits id e = cc
+use Rattle.k_shown.proofs.Statuses.{run_sends, run_waits, receives_sends, receives_one}
 
 -- TOOK
 
@@ -78,7 +64,7 @@ taken_renews m me n true alive i p here =
       on = λ h. h;
       level = refl;
       sending = λ to q. absurd (receives_sends (Some me) to q);
-      receiving = λ from q. subst (λ (x : ThreadId). is_present (table m) x ≡ true) (some_one me from (receives_one (Some me) from q)) here;
+      receiving = λ from q. subst (λ (x : ThreadId). is_present (table m) x ≡ true) (same_Some me from (receives_one (Some me) from q)) here;
     }
 taken_renews m me n false alive i p here = renews m n (state.Run result4.Sent) (i.words n) alive refl tt (λ to q. absurd (run_sends to q)) (λ from q. absurd (run_waits from q))
 

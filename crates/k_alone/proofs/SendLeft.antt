@@ -31,12 +31,13 @@ use Rattle.k_shown.specs.Memory.{Memory, waiting}
 use Rattle.k_shown.specs.Leaves.{IsWoken, Leaves, pushed_by, state_told, woken_by}
 use Rattle.k_shown.specs.Sound.{IsCaller, IsSoundMemory}
 use Rattle.k_shown.proofs.Kept.{SameThreads, pushed}
-use Rattle.k_shown.proofs.Left.{Turns, all_stay, caller_turns, leaves_from, lists_kept, lists_pushed, longer, no_other, self_told, woken_turns}
+use Rattle.k_shown.proofs.Left.{Turns, all_stay, caller_turns, leaves_from, lists_kept, lists_pushed, longer, no_other, woken_turns}
 use Rattle.k_alone.proofs.Made.{reply_first, reply_other}
 use Rattle.k_shown.specs.Rows.{sent_line}
 use Rattle.k_alone.proofs.SendRuns.{state_after}
 use Rattle.k_alone.proofs.Sends.{passing, waits_at}
 use Rattle.k_shown.specs.Words.{on_with}
+use Rattle.k_shown.proofs.Statuses.{same_self}
 
 sends_runs : (to : ThreadId) → status.Sending to ≡ status.Run → ⊥
 sends_runs to e = cc
@@ -82,7 +83,7 @@ module _ (m : Memory) (me : ThreadId) (own : StateWord) (serial : ℕ) (phase : 
   passed_event = record { who = me; serial = serial; act = act.Call phase }
 
   woken_is : (a : Manner) → woken_by me (replies a) ≡ to ∷ []
-  woken_is manner.Plain = rw (other, self_told me) refl
+  woken_is manner.Plain = rw (other, same_self me) refl
   woken_is manner.Joined = rw other refl
   woken_is manner.Reply = rw other refl
 

@@ -14,22 +14,11 @@ use Rattle.k_model.specs.State.{is_dead, is_present}
 use Rattle.k_model.proofs.Maps.{upd_other}
 use Rattle.k_shown.specs.Memory.{Memory, table, with_word, with_mail, with_queue}
 use Rattle.k_shown.specs.Sound.{IsCaller, IsEntry, IsSoundWords}
-use Rattle.k_model.proofs.Lists.{all_push}
+use Rattle.k_lists.proofs.All.{all_push}
 use Rattle.k_shown.proofs.Kept.{Renews, SameThreads, room_kept, same_threads, then_threads, renewed_words, mailed_words, queued_words}
 use Rattle.k_shown.proofs.States.{renews}
 use Rattle.k_shown.specs.Words.{on_with}
-
-run_sends : (id : ThreadId) → status.Run ≡ status.Sending id → ⊥
-run_sends id e = cc
-
-run_waits : (id : ThreadId) → status.Run ≡ status.Receiving (Some id) → ⊥
-run_waits id e = cc
-
-sends_waits : (to id : ThreadId) → status.Sending to ≡ status.Receiving (Some id) → ⊥
-sends_waits to id e = cc
-
-sends_one : (to id : ThreadId) → status.Sending to ≡ status.Sending id → to ≡ id
-sends_one to id e = cc
+use Rattle.k_shown.proofs.Statuses.{run_sends, run_waits, sends_waits, sends_one}
 
 -- PASSED
 

@@ -17,7 +17,7 @@ use Rattle.k_threads.specs.Hands.{unlinked, without_it}
 use Rattle.k_locks.specs.Threads.{who_of}
 use Rattle.k_model.specs.State.{Waiting, same_id}
 use Rattle.k_model.specs.Sound.{has_entry, numbers}
-use Rattle.k_model.proofs.Lists.{all_of_map, all_weaker}
+use Rattle.k_lists.proofs.All.{all_of_map, all_weaker}
 use Rattle.k_shown.specs.Memory.{waiting, waiting_of}
 use Rattle.k_shown.specs.Sound.{IsEntry}
 

@@ -43,8 +43,9 @@ use Rattle.k_alone.proofs.Killing.{Half, receiving_waits, may_free, fewer, freed
 use Rattle.k_alone.proofs.Killed.{half_queue}
 use Rattle.k_alone.proofs.FreeRuns.{Frees, at, hand_with, call_state, then_rest}
 use Rattle.k_alone.proofs.Gone.{at_level, freed_gone, freed_stays, ids_of, lists_off, lists_on}
-use Rattle.k_alone.proofs.Made.{replay_on, same_self}
+use Rattle.k_alone.proofs.Made.{replay_on}
 use Rattle.k_alone.proofs.Runs.{Goes, arrived, can, loads, on, one, then, won, writes}
+use Rattle.k_shown.proofs.Statuses.{same_self}
 
 -- whether a state is that of one who waits for the thread
 receives_from : (who : ThreadId) (s : State) → is_receiving_from who s ≡ true → shows s ≡ status.Receiving (Some who)

@@ -19,7 +19,7 @@ use Rattle.k_shown.specs.Words.{appended, dead_word, new_word}
 use Rattle.k_model.specs.State.{is_dead, nowhere}
 use Rattle.k_model.specs.Step.{last_version}
 use Rattle.k_model.specs.History.{opened, opening_place, new_place, dead_place}
-use Rattle.k_model.proofs.Lists.{all_at}
+use Rattle.k_lists.proofs.All.{all_at}
 use Rattle.k_model.proofs.Listed.{opened-listed}
 use Rattle.k_model.proofs.Opening.{opened-sound}
 use Rattle.k_shown.specs.Memory.{Memory, Shows, with_ready}

@@ -20,7 +20,7 @@ use Rattle.k_model.specs.Maps.{upd}
 use Rattle.k_model.specs.State.{KernelState, is_dead, is_present}
 use Rattle.k_model.specs.Sound.{IsSound, IsListed}
 use Rattle.k_model.proofs.Maps.{upd_tells, upd_cases}
-use Rattle.k_model.proofs.Lists.{all_weaker, all_push}
+use Rattle.k_lists.proofs.All.{all_weaker, all_push}
 use Rattle.k_shown.specs.Memory.{Memory, Shows, table, with_word, with_mail, with_queue, with_ready, with_context, with_numbers}
 use Rattle.k_locks.specs.Shown.{shows}
 use Rattle.k_shown.specs.Words.{appended}

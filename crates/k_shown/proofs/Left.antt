@@ -17,12 +17,13 @@ use Rattle.k_ready.specs.Lists.{list_of, with_list}
 use Rattle.k_locks.specs.Shown.{shows}
 use Rattle.k_model.specs.Answers.{reply_to}
 use Rattle.k_model.specs.State.{is_present, is_run, same_id}
-use Rattle.k_model.proofs.Lists.{all_weaker}
+use Rattle.k_lists.proofs.All.{all_weaker}
 use Rattle.k_shown.specs.Memory.{Memory, table, waiting, waiting_of}
 use Rattle.k_shown.specs.Leaves.{IsWoken, Leaves, made_by, moved_word, pushed_by, state_with, woken_by}
 use Rattle.k_shown.specs.Sound.{IsReady, IsSoundReady}
 use Rattle.k_shown.proofs.Kept.{SameThreads, list_cases}
 use Rattle.k_shown.specs.Words.{on_with}
+use Rattle.k_shown.proofs.Statuses.{same_self}
 
 -- WORDS
 
@@ -164,17 +165,14 @@ leaves_from event o lines m m' t turns woken own mails queues lists running = re
 
 -- REPLIES TO THE CALLER ALONE
 
-pub self_told : (id : ThreadId) → same_id id id ≡ true
-self_told id = rw (eq-eqb id.number id.number refl, eq-eqb id.version id.version refl) refl
-
 -- a line of the caller wakes nobody
 pub no_other : {P : Type 0} (who id : ThreadId) → id ≡ who → same_id id who ≡ false → P
-no_other who id e f = absurd (false≢true (sym f ∙ ap (λ (i : ThreadId). same_id i who) e ∙ self_told who))
+no_other who id e f = absurd (false≢true (sym f ∙ ap (λ (i : ThreadId). same_id i who) e ∙ same_self who))
 
 mine_woken : (who : ThreadId) (lines : List ReplyLine) → AllByRecursion (λ line. line.id ≡ who) lines → woken_by who lines ≡ []
 mine_woken who [] all = refl
 mine_woken who (line ∷ lines) all =
-    let same : same_id line.id who ≡ true = ap (λ (i : ThreadId). same_id i who) all.0 ∙ self_told who in
+    let same : same_id line.id who ≡ true = ap (λ (i : ThreadId). same_id i who) all.0 ∙ same_self who in
     rw same (mine_woken who lines all.1)
 
 pub mine_pushed : (m : Memory) (who : ThreadId) (o : Outcome) (lines : List ReplyLine) → AllByRecursion (λ line. line.id ≡ who) lines → made_by o ≡ [] → pushed_by m who o lines ≡ []

@@ -1,8 +1,8 @@
+pub mod Statuses
 pub mod Shown
 pub mod Kept
 pub mod States
 pub mod Rooms
-pub mod Firsts
 pub mod Alike
 pub mod SendRows
 pub mod ReceiveRows

@@ -22,8 +22,9 @@ use Rattle.k_shown.specs.Memory.{Memory, Shows, joined_of, table, waiting, with_
 use Rattle.k_shown.specs.Rows.{Alike, Answers, Gives, IsFirst, IsIn, IsUnwanted, IsWordOf, call_of, called_by, gone_of, next_serial, pick_of, sent_line, taking, told}
 use Rattle.k_shown.proofs.Shown.{shows_answered, shows_called, shows_queue, shows_status}
 use Rattle.k_shown.proofs.States.{upd_twice}
-use Rattle.k_shown.proofs.Firsts.{position_at, position_none, remove_behind}
+use Rattle.k_lists.proofs.Positions.{absent_found, position_behind, remove_behind}
 use Rattle.k_shown.proofs.Alike.{answers, may_call, present_in, sent_replies, shows_alike, shows_sent, shows_turned, status_is, version_is, waits_is}
+use Rattle.k_shown.proofs.Statuses.{run_sends, picking_sends}
 
 -- the rows of a receive
 module _ (k : KernelState) (me : ThreadId) (serial : ℕ) (from : Option ThreadId) (zero : Bool) where
@@ -46,7 +47,7 @@ module _ (k : KernelState) (me : ThreadId) (serial : ℕ) (from : Option ThreadI
 module _ (m : Memory) (k : KernelState) (h : Shows m k) (me : ThreadId) (from : Option ThreadId) where
   -- nobody is found
   nobody_at : IsUnwanted from (waiting (m.queue me.number)) → match_at k me from ≡ None
-  nobody_at u = ap (λ (ws : List Waiting). position (λ (x : Waiting). admits from x.0) ws) (h.waiting me.number) ∙ position_none (λ (x : Waiting). admits from x.0) (waiting (m.queue me.number)) u
+  nobody_at u = ap (λ (ws : List Waiting). position (λ (x : Waiting). admits from x.0) ws) (h.waiting me.number) ∙ absent_found (λ (x : Waiting). admits from x.0) (waiting (m.queue me.number)) u
 
   -- A message is taken.
   module _ (w : Waiting) (before after : List Waiting) (f : IsFirst from (waiting (m.queue me.number)) w before after) where
@@ -54,7 +55,7 @@ module _ (m : Memory) (k : KernelState) (h : Shows m k) (me : ThreadId) (from : 
     list_is = h.waiting me.number ∙ f.list
 
     first_at : match_at k me from ≡ Some (length before)
-    first_at = ap (λ (ws : List Waiting). position (λ (x : Waiting). admits from x.0) ws) list_is ∙ position_at (λ (x : Waiting). admits from x.0) before w after f.unwanted f.wanted
+    first_at = ap (λ (ws : List Waiting). position (λ (x : Waiting). admits from x.0) ws) list_is ∙ position_behind (λ (x : Waiting). admits from x.0) before w after f.unwanted f.wanted
 
     pub first_is : entry_at k me.number (length before) ≡ w
     first_is = ap (λ (ws : List Waiting). get_or ws (length before) no_one) list_is ∙ get_or-append_seam before w after no_one
@@ -84,12 +85,6 @@ module _ (m : Memory) (k : KernelState) (h : Shows m k) (me : ThreadId) (from : 
 -- who has a status that a sender hasn't is another
 apart_sender : (m : Memory) (me who : ThreadId) (s : Status) → IsIn m me s → IsIn m who (status.Sending me) → (s ≡ status.Sending me → ⊥) → who.number ≢ me.number
 apart_sender m me who s a b never e = never (sym a.status ∙ ap (λ (n : ℕ). shows (m.word n).state) (sym e) ∙ b.status)
-
-run_sends : (id : ThreadId) → status.Run ≡ status.Sending id → ⊥
-run_sends id e = cc
-
-picking_sends : (id : ThreadId) → status.Picking ≡ status.Sending id → ⊥
-picking_sends id e = cc
 
 module _ (m m' : Memory) (k : KernelState) (me : ThreadId) (from : Option ThreadId) (zero : Bool) (h : Shows m k) (runs : IsIn m me status.Run) where
   h1 : Shows m (called_by k me)
@@ -171,7 +166,7 @@ module _ (m m' : Memory) (k : KernelState) (me : ThreadId) (h : Shows m k) (pick
   pick_waits_row none w iw a =
       let k1 = with_status k me.number status.Run in
       let list : (k1.place me.number).waiting ≡ [] = upd_cases (λ (p : Place). p.waiting ≡ []) k.place me.number (record (k.place me.number) { status = status.Run; joined = false }) me.number (λ _. h.waiting me.number ∙ none) (λ _. h.waiting me.number ∙ none) in
-      let nobody : match_at k1 me None ≡ None = ap (λ (ws : List Waiting). position (λ (x : Waiting). admits None x.0) ws) list ∙ position_none (λ (x : Waiting). admits None x.0) [] tt in
+      let nobody : match_at k1 me None ≡ None = ap (λ (ws : List Waiting). position (λ (x : Waiting). admits None x.0) ws) list ∙ absent_found (λ (x : Waiting). admits None x.0) [] tt in
       let u : StateWord = record w { state = state.Run result4.Plain } in
       let running = with_word m me.number u in
       let shown : Shows running k1 = shown_running u (record { version = iw.version; status = refl; joined = refl }) in

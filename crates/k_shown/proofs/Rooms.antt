@@ -13,7 +13,7 @@ use Rattle.k_senders.specs.Queue.{number_of, stands}
 use Rattle.k_locks.specs.Shown.{shows}
 use Rattle.k_model.specs.State.{KernelState, Waiting, id_of, is_dead, is_present}
 use Rattle.k_model.specs.Sound.{IsSound, numbers}
-use Rattle.k_model.proofs.Lists.{all_map, all_weaker}
+use Rattle.k_lists.proofs.All.{all_map, all_weaker}
 use Rattle.k_model.proofs.Sound.{StandsNowhere, inside_from, nowhere_from, senders_inside}
 use Rattle.k_shown.specs.Memory.{Memory, table, waiting_of}
 use Rattle.k_shown.specs.Sound.{IsCaller, IsSoundMemory}

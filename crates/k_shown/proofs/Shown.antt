@@ -12,7 +12,7 @@ use Rattle.k_model.specs.State.{KernelState, Waiting, Place, with_place, with_st
 use Rattle.k_model.specs.Step.{called}
 use Rattle.k_model.specs.Sound.{IsSound, IsListed, IsQueued, numbers, has_entry}
 use Rattle.k_model.proofs.Maps.{upd_tells, upd_cases}
-use Rattle.k_model.proofs.Lists.{all_weaker}
+use Rattle.k_lists.proofs.All.{all_weaker}
 use Rattle.k_shown.specs.Memory.{Memory, Shows, joined_of, waiting, table, with_word, with_mail, with_queue, with_ready}
 use Rattle.k_locks.specs.Shown.{shows}
 

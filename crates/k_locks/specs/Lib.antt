@@ -1,6 +1,11 @@
 pub mod Locks
 pub mod Numbers
 pub mod Steps
+pub mod Asks
+pub mod Hands
+pub mod Tables
+pub mod Points
+pub mod Places
+pub mod Queues
 pub mod Shown
 pub mod Threads
-pub mod Runs

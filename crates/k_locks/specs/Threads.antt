@@ -1,14 +1,10 @@
--- Threads: as an entry of a queue names them, and as their state words spell them.
-use Rattle.std.specs.Prelude.{ℕ, ◌+◌, ◌*◌, ◌≤◌, ◌≡◌, Bool, true, false}
+-- Threads, as their state words spell them.
+use Rattle.std.specs.Prelude.{ℕ, ◌≤◌, ◌≡◌, Bool, true, false}
 use Rattle.k_ids.specs.declared.threads.ThreadId.{ThreadId}
 use Rattle.k_ids.specs.declared.state_word.State.{State}
 use Rattle.k_ids.specs.declared.state_word.State.TheVariants as state
 use Rattle.k_ids.specs.declared.state_word.StateWord.{StateWord}
 use Rattle.k_ids.specs.StateWords.{IsStateSpelling, IsStateWord, state_word_of}
-
--- a thread in 64 bits: its version times 64 plus its number
-abbrev pub who_of : ThreadId → ℕ
-who_of id = 64 * id.version + id.number
 
 abbrev pub runs : State → Bool
 runs (state.Run result) = true

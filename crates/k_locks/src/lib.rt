@@ -10,25 +10,34 @@
 //! [`Answer`] is what came of it, and [`Went`] how the section goes on. `specs/Steps` says what each step makes of its word,
 //! which answers it can have, and what comes and goes with it. Words stand in steps and answers as bits; k_ids reads them.
 //!
+//! The tables of the sections speak of decoded words: `specs/Asks` has their steps and responses, `specs/Hands` what is in hand,
+//! and `specs/Tables` what a section is, and what is claimed of the locks and the steps of any. A [`Point`] is the event of a step.
+//!
 //! A state word that was loaded is read by [`state_word`]; [`found_in`] and the functions beside it say what it shows.
-//! `specs/Runs` has what the steps of a section come to: which locks it holds after each, and how many exchanges were lost.
 //!
 //! [`Numbers`] is the list that the table lock guards: which numbers have a thread, and of which version.
 #![tactic(auto)]
 
 mod goods;
+mod laws;
 mod locks;
 mod numbers;
+mod points;
 mod shown;
 mod steps;
 mod threads;
 
 pub use goods::Goods;
+pub use laws::{
+    a_queue_is_parted, an_answer_is_a_response, an_exchange_is_of_words, places_are_apart,
+    the_lowest_is_held,
+};
 pub use locks::{Lock, WordName, rank};
 pub use numbers::Numbers;
+pub use points::Point;
 pub use shown::{found_in, is_dead, is_present_in, shows, state_word, takes_from};
-pub use steps::{Answer, Step, Went, one_more};
-pub use threads::{admits, is_same, who_of};
+pub use steps::{Answer, Step, Told, Went, one_more};
+pub use threads::{admits, is_same};
 
 #[cfg(test)]
 mod tests;

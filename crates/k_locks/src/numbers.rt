@@ -1,14 +1,17 @@
 // The thread numbers: which have a thread, and of which version.
 ghost use Rattle.std.specs.Prelude.{◌≡◌, ◌<◌, ◌≤◌, ◌≢◌, ℕ, true, false, length, IfSome};
-ghost use Rattle.std.specs.Int.{bit_at};
 ghost use Rattle.k_model.specs.Step.{last_version};
 ghost use Rattle.k_locks.specs.Numbers.{alive, is_free, is_present, is_worn, lowest_free, version_at, with_thread, without_thread, worn};
+
+use std::marker::Model;
 
 /// The last version that a number can have.
 const LAST_VERSION: u32 = 1_048_575;
 
 /// The list of thread numbers, which the table lock guards.
-#[derive(Clone, Copy, Debug, PartialEq, Eq)]
+///
+/// Contracts see two lists of `count` entries: the versions, and whether there is a thread.
+#[derive(Drop)]
 pub struct Numbers {
     /// Of each number: the version of the thread that has it, or had it last; 0 where it has had none, at most 1,048,575.
     pub versions: [u32; 64],
@@ -18,10 +21,30 @@ pub struct Numbers {
     pub count: u8,
 }
 
+impl Model for Numbers {
+    ghost use Rattle.std.specs.Prelude.{take, ◌≤◌};
+    ghost use Rattle.k_locks.specs.Numbers.{ThreadNumbers, presences};
+
+    ghost Value = { ThreadNumbers };
+
+    ghost view = { λ n. record { versions = take n.count n.versions; present = presences n.present n.count } };
+
+    ghost invariant = { λ n. n.count ≤ 64 };
+}
+
 impl Numbers {
+    /// How many numbers there are.
+    pub fn count(&self) -> u8
+        ensures versions { result ≡ length self.now.versions }
+        ensures present { result ≡ length self.now.present }
+        ensures few { result ≤ 64 }
+    {
+        self.count
+    }
+
     /// Whether a number has a thread.
     pub fn is_present(&self, number: u8) -> bool
-        requires { number < 64 }
+        requires { number < length self.now.versions }
         ensures { result ≡ is_present self.now number }
     {
         (self.present >> number) & 1 == 1
@@ -30,12 +53,11 @@ impl Numbers {
     /// The lowest number below `count` that a new thread may get: it has no thread, and its version isn't the last. `None`
     /// exactly where there is none.
     pub fn lowest_free(&self) -> Option<u8>
-        requires { self.now.count ≤ 64 }
         ensures number { result ≡ lowest_free self.now }
         ensures free { IfSome result (λ number. is_free self.now number ≡ true) }
-        ensures inside { IfSome result (λ number. number < self.now.count) }
+        ensures inside { IfSome result (λ number. number < length self.now.versions) }
     {
-        for number in 0..self.count {
+        for number in 0..self.count() {
             if self.is_free(number) {
                 return Some(number);
             }
@@ -45,12 +67,11 @@ impl Numbers {
 
     /// How many numbers below `count` have a thread.
     pub fn alive(&self) -> u8
-        requires { self.now.count ≤ 64 }
         ensures number { result ≡ alive self.now }
         ensures few { result ≤ 64 }
     {
         let mut alive = 0;
-        for number in 0..self.count {
+        for number in 0..self.count() {
             if self.is_present(number) {
                 alive += 1;
             }
@@ -60,12 +81,11 @@ impl Numbers {
 
     /// How many numbers below `count` have no thread, and have had their last.
     pub fn worn(&self) -> u8
-        requires { self.now.count ≤ 64 }
         ensures number { result ≡ worn self.now }
         ensures few { result ≤ 64 }
     {
         let mut worn = 0;
-        for number in 0..self.count {
+        for number in 0..self.count() {
             if self.is_worn(number) {
                 worn += 1;
             }
@@ -76,7 +96,7 @@ impl Numbers {
     /// The numbers where this one has a new thread, of the next version. The number may have no thread, and not its last
     /// version.
     pub fn with_thread(&self, number: u8) -> Numbers
-        requires inside { number < 64 }
+        requires inside { number < length self.now.versions }
         requires young { version_at self.now number < last_version }
         ensures { result ≡ with_thread number self.now }
     {
@@ -102,7 +122,7 @@ impl Numbers {
 
     // Whether a new thread may get the number.
     fn is_free(&self, number: u8) -> bool
-        requires { number < 64 }
+        requires { number < length self.now.versions }
         ensures { result ≡ is_free self.now number }
     {
         !self.is_present(number) && self.versions[usize::from(number)] < LAST_VERSION
@@ -110,7 +130,7 @@ impl Numbers {
 
     // Whether the number has no thread, and has had its last.
     fn is_worn(&self, number: u8) -> bool
-        requires { number < 64 }
+        requires { number < length self.now.versions }
         ensures { result ≡ is_worn self.now number }
     {
         !self.is_present(number) && self.versions[usize::from(number)] == LAST_VERSION

@@ -1,6 +1,6 @@
 // A step of a critical section on one word, and its answer.
 ghost use Rattle.std.specs.Prelude.{◌≡◌};
-ghost use Rattle.k_locks.specs.Steps.{is_again, one_more};
+ghost use Rattle.k_locks.specs.Steps.{is_again, is_again_told, one_more};
 
 use crate::goods::Goods;
 use crate::locks::{Lock, WordName};
@@ -43,17 +43,23 @@ pub enum Step {
     },
 }
 
-/// What came of a step.
+/// What came of a step: goods, where a lock was got, or else what is told.
 #[derive(Drop)]
 pub enum Answer {
+    /// The lock was free, and is now owned. This is what it guards.
+    Got(Goods),
+    Told(Told),
+}
+
+/// What is told of a step.
+#[derive(Clone, Copy, Debug, PartialEq, Eq)]
+pub enum Told {
     /// The word was this.
     Loaded(u64),
     Stored,
     Won,
     /// The word wasn't the expected one, but this.
     Lost { found: u64 },
-    /// The lock was free, and is now owned. This is what it guards.
-    Got(Goods),
     /// This context owns the lock. Nothing has changed.
     Owned { owner: u8 },
     Released,
@@ -70,9 +76,21 @@ impl Answer {
     pub fn is_again(&self) -> bool
         ensures { result ≡ is_again self.now }
     {
+        match self {
+            Answer::Got(_) => false,
+            Answer::Told(told) => told.is_again(),
+        }
+    }
+}
+
+impl Told {
+    /// Whether the section has to ask for the same step again.
+    pub fn is_again(self) -> bool
+        ensures { result ≡ is_again_told self }
+    {
         matches!(
             self,
-            Answer::Owned { .. } | Answer::Holds { .. } | Answer::Taken { .. }
+            Told::Owned { .. } | Told::Holds { .. } | Told::Taken { .. }
         )
     }
 }

@@ -1,7 +1,6 @@
 // Threads by their ids.
 ghost use Rattle.std.specs.Prelude.{◌≡◌};
 ghost use Rattle.k_model.specs.State.{admits, same_id};
-ghost use Rattle.k_locks.specs.Threads.{who_of};
 
 use k_ids::ThreadId;
 
@@ -20,11 +19,4 @@ pub fn admits(from: Option<ThreadId>, who: ThreadId) -> bool
         None => true,
         Some(from) => is_same(from, who),
     }
-}
-
-/// A thread in 64 bits, as an entry of a queue names it: its version times 64 plus its number.
-pub fn who_of(id: ThreadId) -> u64
-    ensures { result ≡ who_of id }
-{
-    64 * u64::from(id.version) + u64::from(id.number)
 }

@@ -2,8 +2,9 @@
 use Rattle.std.proofs.Common.{◌≡◌, ℕ, Bool, true, false, List, [], ◌∷◌, ◌++◌, Option, Some, None, arith, refl, sym, ◌∙◌, ap, cond}
 use Rattle.std.specs.Prelude.{◌||◌, ◌==◌, if◌then◌else◌}
 use Rattle.std.proofs.lemmas.Grind.{common_steps}
+use Rattle.k_senders.specs.Entries.{number_of}
 use Rattle.k_senders.specs.declared.entries.SenderEntry.{SenderEntry}
-use Rattle.k_senders.specs.Queue.{IsOnceEach, entry_of, first_number, number_after, number_before, number_of, stands}
+use Rattle.k_senders.specs.Queue.{IsOnceEach, entry_of, first_number, number_after, number_before, stands}
 use Rattle.k_senders.specs.Links.{end_of, last_after, last_number, leads_to}
 
 pub stands_append : (n : ℕ) (es : List SenderEntry) (e : SenderEntry) → stands n (es ++ e ∷ []) ≡ (stands n es || (number_of e == n))

@@ -2,8 +2,10 @@
 use Rattle.std.proofs.Common.{◌≡◌, ◌≤◌, ◌+◌, ℕ, refl, zero, suc, List, [], ◌∷◌, length, arith, add-one}
 use Rattle.std.specs.Prelude.{nat_lt, if◌then◌else◌}
 use Rattle.std.proofs.lemmas.Grind.{common_steps}
+use Rattle.k_senders.specs.Entries.{number_of}
 use Rattle.k_senders.specs.declared.entries.SenderEntry.{SenderEntry}
-use Rattle.k_senders.specs.Queue.{IsOnceEach, number_of, stands}
+use Rattle.k_senders.proofs.EntrySpelled.{number_small}
+use Rattle.k_senders.specs.Queue.{IsOnceEach, stands}
 
 -- how many entries have a number below a bound
 abbrev below : ℕ → List SenderEntry → ℕ
@@ -24,7 +26,7 @@ below_bound (suc k) es o = grind (arith, common_steps, add-one k, below_more k e
 
 below_all : (es : List SenderEntry) → below 64 es ≡ length es
 below_all [] = refl
-below_all (e ∷ es) = grind (arith, common_steps, below_all es)
+below_all (e ∷ es) = grind (arith, common_steps, number_small e, below_all es)
 
 pub few_entries : (es : List SenderEntry) → IsOnceEach es → length es ≤ 64
 few_entries es o = grind (arith, below_all es, below_bound 64 es o)

@@ -1,3 +1,4 @@
+pub mod EntrySpelled
 pub mod Appended
 pub mod Walked
 pub mod Removed

@@ -1,10 +1,12 @@
 -- The entry at a position, and its number.
 use Rattle.std.proofs.Common.{◌≡◌, ◌≢◌, ◌<◌, ◌+◌, ℕ, zero, suc, true, false, List, [], ◌∷◌, Some, None, length, drop, arith, refl, sym, ◌∙◌, add-one}
-use Rattle.std.specs.Prelude.{◌%◌, ◌==◌}
+use Rattle.std.specs.Prelude.{◌==◌}
 use Rattle.std.proofs.lemmas.Grind.{common_steps}
+use Rattle.k_senders.specs.Entries.{number_of, thread_of}
+use Rattle.k_senders.proofs.EntrySpelled.{sender_named}
 use Rattle.k_senders.specs.Links.{IsKnown, IsNumberAt, is_of}
 use Rattle.k_senders.specs.declared.entries.SenderEntry.{SenderEntry}
-use Rattle.k_senders.specs.Queue.{IsOnceEach, entry_of, first_number, number_after, number_of, sends, stands, without, without_thread}
+use Rattle.k_senders.specs.Queue.{IsOnceEach, entry_of, first_number, number_after, sends, stands, without, without_thread}
 
 pub number_at : (es : List SenderEntry) (i n : ℕ) → IsOnceEach es → first_number (drop i es) ≡ Some n → IsNumberAt es i n
 number_at [] zero n o e = absurd (cc)
@@ -17,21 +19,21 @@ number_at (f ∷ es) (suc i) n o e =
     let other : (number_of f == n) ≡ false = grind (arith, common_steps, h.standing, o.0) in
     record { standing = rw (other, h.standing) refl; entry = rw other h.entry; after = rw (other, add-one) (rw add-one at h.after); without_it = rw (other, h.without_it) refl }
 
-sends_none : (who : ℕ) (es : List SenderEntry) → stands (who % 64) es ≡ false → sends who es ≡ false
+sends_none : (who : ℕ) (es : List SenderEntry) → stands (thread_of who).number es ≡ false → sends who es ≡ false
 sends_none who [] s = refl
-sends_none who (f ∷ es) s = grind (arith, common_steps, sends_none who es)
+sends_none who (f ∷ es) s = grind (arith, common_steps, sender_named f, sends_none who es)
 
-pub sends_is : (who : ℕ) (es : List SenderEntry) → IsOnceEach es → is_of who (entry_of (who % 64) es) ≡ sends who es
+pub sends_is : (who : ℕ) (es : List SenderEntry) → IsOnceEach es → is_of who (entry_of (thread_of who).number es) ≡ sends who es
 sends_is who [] o = refl
-sends_is who (f ∷ es) o = grind (arith, common_steps, sends_is who es, sends_none who es)
+sends_is who (f ∷ es) o = grind (arith, common_steps, sender_named f, sends_is who es, sends_none who es)
 
-pub sends_stands : (who : ℕ) (es : List SenderEntry) → sends who es ≡ true → stands (who % 64) es ≡ true
+pub sends_stands : (who : ℕ) (es : List SenderEntry) → sends who es ≡ true → stands (thread_of who).number es ≡ true
 sends_stands who [] s = grind arith
-sends_stands who (f ∷ es) s = grind (arith, common_steps, sends_stands who es)
+sends_stands who (f ∷ es) s = grind (arith, common_steps, sender_named f, sends_stands who es)
 
-pub without_sender : (who : ℕ) (es : List SenderEntry) → IsOnceEach es → sends who es ≡ true → without_thread who es ≡ without (who % 64) es
+pub without_sender : (who : ℕ) (es : List SenderEntry) → IsOnceEach es → sends who es ≡ true → without_thread who es ≡ without (thread_of who).number es
 without_sender who [] o s = refl
-without_sender who (f ∷ es) o s = grind (arith, common_steps, without_sender who es, sends_stands who es)
+without_sender who (f ∷ es) o s = grind (arith, common_steps, sender_named f, without_sender who es, sends_stands who es)
 
 pub without_nobody : (who : ℕ) (es : List SenderEntry) → sends who es ≡ false → without_thread who es ≡ es
 without_nobody who [] s = refl
@@ -52,7 +54,7 @@ number_there [] i l e = absurd (omega arith)
 number_there (f ∷ es) zero l e = absurd cc
 number_there (f ∷ es) (suc i) l e = number_there es i (omega arith) e
 
-pub known : (es : List SenderEntry) (who : ℕ) → IsOnceEach es → IsKnown es who (is_of who (entry_of (who % 64) es))
+pub known : (es : List SenderEntry) (who : ℕ) → IsOnceEach es → IsKnown es who (is_of who (entry_of (thread_of who).number es))
 known es who o =
-    let a : is_of who (entry_of (who % 64) es) ≡ sends who es = sends_is who es o in
+    let a : is_of who (entry_of (thread_of who).number es) ≡ sends who es = sends_is who es o in
     record { answer = a; standing = λ f. sends_stands who es (sym a ∙ f); taken = λ f. without_sender who es o (sym a ∙ f); absent = λ f. without_nobody who es (sym a ∙ f) }

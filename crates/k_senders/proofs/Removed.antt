@@ -3,8 +3,9 @@ use Rattle.std.proofs.Common.{◌≡◌, ◌≢◌, ◌+◌, ℕ, Bool, true, fa
 use Rattle.std.specs.Prelude.{◌==◌, if◌then◌else◌}
 use Rattle.std.proofs.lemmas.Grind.{common_steps}
 use Rattle.std.proofs.lemmas.Bool.{cases_eq}
+use Rattle.k_senders.specs.Entries.{number_of}
 use Rattle.k_senders.specs.declared.entries.SenderEntry.{SenderEntry}
-use Rattle.k_senders.specs.Queue.{IsOnceEach, entry_of, first_number, number_after, number_before, number_of, stands, without}
+use Rattle.k_senders.specs.Queue.{IsOnceEach, entry_of, first_number, number_after, number_before, stands, without}
 use Rattle.k_senders.specs.Links.{end_of, last_after, leads_to}
 use Rattle.k_senders.proofs.Appended.{exchanged, nothing_entry, nothing_after, nothing_before}
 

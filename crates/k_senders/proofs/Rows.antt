@@ -5,9 +5,10 @@ use Rattle.std.proofs.lemmas.Grind.{common_steps}
 use Rattle.std.proofs.lemmas.List.{get_or_past, get_or_default, get_or-replicate, length-replicate}
 use Rattle.std.proofs.lemmas.Bool.{cases_lt}
 use Rattle.std.proofs.Math.Seq.{take-append_seam}
+use Rattle.k_senders.specs.Entries.{number_of}
 use Rattle.k_senders.specs.declared.entries.SenderEntry.{SenderEntry}
 use Rattle.k_senders.specs.declared.entries.SenderRow.{SenderRow}
-use Rattle.k_senders.specs.Queue.{IsOnceEach, entry_of, number_after, number_before, number_of, row_of, stands, without}
+use Rattle.k_senders.specs.Queue.{IsOnceEach, entry_of, number_after, number_before, row_of, stands, without}
 use Rattle.k_senders.specs.Links.{IsBelow, IsLinked, empty_row, end_of, last_number, leads_to, row_at, walked, with_next, with_prior}
 use Rattle.k_senders.proofs.Appended.{after_append, before_append, entry_append, first_append, last_append, last_stands, nothing_after, once_append}
 use Rattle.k_senders.proofs.Removed.{after_without, before_stands, before_without, entry_without, first_without, last_without, length_without, next_stands, not_after, not_before_first, once_without}

@@ -1,9 +1,10 @@
 -- The entries that are met along the links are the list.
 use Rattle.std.proofs.Common.{◌≡◌, ℕ, true, List, [], ◌∷◌, Option, Some, length, arith, refl, ap}
 use Rattle.std.proofs.lemmas.Grind.{common_steps}
+use Rattle.k_senders.specs.Entries.{number_of}
 use Rattle.k_senders.specs.declared.entries.SenderEntry.{SenderEntry}
 use Rattle.k_senders.specs.declared.entries.SenderRow.{SenderRow}
-use Rattle.k_senders.specs.Queue.{IsOnceEach, entry_of, first_number, number_after, number_of, stands}
+use Rattle.k_senders.specs.Queue.{IsOnceEach, entry_of, first_number, number_after, stands}
 use Rattle.k_senders.specs.Links.{IsLinked, row_at, walked}
 
 -- each entry of a list leads on to the one after it

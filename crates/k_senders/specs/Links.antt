@@ -1,8 +1,9 @@
 -- How a queue is linked through the rows, and what a change of one link does to each row.
-use Rattle.std.specs.Prelude.{◌≡◌, ◌<◌, ℕ, zero, suc, Bool, true, false, ◌==◌, if◌then◌else◌, Option, Some, None, List, [], ◌∷◌, length, remove, slice_get, slice_index_or, drop, ◌+◌, ◌%◌}
+use Rattle.std.specs.Prelude.{◌≡◌, ◌<◌, ℕ, zero, suc, Bool, true, false, ◌==◌, if◌then◌else◌, Option, Some, None, List, [], ◌∷◌, length, remove, slice_get, slice_index_or, drop, ◌+◌}
 use Rattle.k_senders.specs.declared.entries.SenderEntry.{SenderEntry}
 use Rattle.k_senders.specs.declared.entries.SenderRow.{SenderRow}
-use Rattle.k_senders.specs.Queue.{IsOnceEach, entry_of, first_number, number_after, number_of, row_of, sends, stands, without, without_thread}
+use Rattle.k_senders.specs.Entries.{number_of, thread_of}
+use Rattle.k_senders.specs.Queue.{IsOnceEach, entry_of, first_number, number_after, row_of, sends, stands, without, without_thread}
 
 -- the row of a number that no entry has
 abbrev pub empty_row : SenderRow
@@ -74,6 +75,6 @@ pub record IsNumberAt (es : List SenderEntry) (i n : ℕ) : Type 0 where
 -- what is known of a thread, by whether it has an entry
 pub record IsKnown (es : List SenderEntry) (who : ℕ) (found : Bool) : Type 0 where
   pub answer : found ≡ sends who es
-  pub standing : found ≡ true → stands (who % 64) es ≡ true
-  pub taken : found ≡ true → without_thread who es ≡ without (who % 64) es
+  pub standing : found ≡ true → stands (thread_of who).number es ≡ true
+  pub taken : found ≡ true → without_thread who es ≡ without (thread_of who).number es
   pub absent : found ≡ false → without_thread who es ≡ es

@@ -1,16 +1,13 @@
 -- A queue of senders: what its list says of a thread number, and what is left when an entry is taken out.
-use Rattle.std.specs.Prelude.{◌≡◌, ℕ, ◌%◌, Bool, false, ◌==◌, ◌||◌, if◌then◌else◌, Option, Some, None, List, [], ◌∷◌}
+use Rattle.std.specs.Prelude.{◌≡◌, ℕ, Bool, false, ◌==◌, ◌||◌, if◌then◌else◌, Option, Some, None, List, [], ◌∷◌}
 use Rattle.k_senders.specs.declared.entries.SenderEntry.{SenderEntry}
 use Rattle.k_senders.specs.declared.entries.SenderRow.{SenderRow}
+use Rattle.k_senders.specs.Entries.{number_of}
 
 -- What contracts see: the entries, in the order in which they came, and how many numbers there are.
 pub record Queue : Type 0 where
   pub entries : List SenderEntry
   pub room : ℕ
-
--- the thread number of an entry: `who` is version times 64 plus number
-abbrev pub number_of : SenderEntry → ℕ
-number_of e = e.who % 64
 
 -- the entry of a number
 abbrev pub entry_of : ℕ → List SenderEntry → Option SenderEntry

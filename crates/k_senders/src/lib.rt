@@ -15,14 +15,18 @@
 //!
 //! What it costs: `at(i)` and `take(i)` walk i links. Each other call but `opened` costs the same whatever the queue holds.
 //!
-//! Numbers are 0 to 63. An entry's `who` is version times 64 plus number.
+//! Numbers are 0 to 63. An entry is made `of` a sender and its message, and shows its `sender`, `message` and `number`: no other
+//! library does arithmetic on its bits. Contracts name them by the ghost functions of `specs/Entries`, of which
+//! [`an_entry_is_a_sender_and_a_message`] says all that is known.
 #![tactic(auto)]
 
 mod entries;
+mod laws;
 mod links;
 mod senders;
 #[cfg(test)]
 mod tests;
 
-pub use entries::{SenderEntry, SenderRow};
+pub use entries::{SenderEntry, SenderRow, thread_of, who_of};
+pub use laws::an_entry_is_a_sender_and_a_message;
 pub use senders::Senders;

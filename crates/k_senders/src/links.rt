@@ -1,6 +1,6 @@
 // Changes of the rows: each is of a few links, and leaves all else.
 ghost use Rattle.k_senders.specs.Links.{IsBelow, empty_row, end_of, row_at, with_next, with_prior};
-ghost use Rattle.k_senders.specs.Queue.{number_of};
+ghost use Rattle.k_senders.specs.Entries.{number_of};
 ghost use Rattle.std.specs.Prelude.{None, Some, if◌then◌else◌, length, ℕ, ◌%◌, ◌<◌, ◌==◌, ◌≡◌};
 
 use crate::entries::{SenderEntry, SenderRow};
@@ -11,13 +11,6 @@ pub const EMPTY_ROW: SenderRow = SenderRow {
     next: None,
 };
 
-/// The number of a thread: `who` is version times 64 plus number.
-pub fn number_of(who: u64) -> u8
-    ensures { result ≡ who % 64 }
-{
-    (who % 64) as u8
-}
-
 /// Writes the row of an entry that follows the last one, and lets the last one lead on to it.
 pub fn append(rows: &mut [SenderRow], last: Option<u8>, entry: SenderEntry)
     requires inside { number_of entry < length rows.old }
@@ -26,7 +19,7 @@ pub fn append(rows: &mut [SenderRow], last: Option<u8>, entry: SenderEntry)
         (if number_of entry == n then record { entry = Some entry; prior = last; next = None } else row_at rows.old n) }
     ensures size { length rows.new ≡ length rows.old }
 {
-    let number = number_of(entry.who);
+    let number = entry.number();
     rows[usize::from(number)] = SenderRow {
         entry: Some(entry),
         prior: last,

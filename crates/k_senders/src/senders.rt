@@ -1,10 +1,11 @@
 // The queue: a row for each thread number, linked in the order of the entries.
+ghost use Rattle.k_senders.specs.Entries.{number_of};
 ghost use Rattle.k_senders.specs.Links.{IsKnown, IsNumberAt, is_of, row_at};
-ghost use Rattle.k_senders.specs.Queue.{IsOnceEach, entry_of, first_number, number_after, number_of, row_of, sends, stands, without, without_thread};
+ghost use Rattle.k_senders.specs.Queue.{IsOnceEach, entry_of, first_number, number_after, row_of, sends, stands, without, without_thread};
 ghost use Rattle.std.specs.Prelude.{IfOk, None, Some, false, length, remove, slice_get, true, ℕ, [], ◌∷◌, ◌++◌, ◌%◌, ◌<◌, ◌≡◌, ◌≤◌};
 
-use crate::entries::{SenderEntry, SenderRow};
-use crate::links::{EMPTY_ROW, append, cut, end_of, number_of};
+use crate::entries::{SenderEntry, SenderRow, thread_of};
+use crate::links::{EMPTY_ROW, append, cut, end_of};
 use k_ids::NoMemory;
 use std::alloc::Global;
 use std::marker::Model;
@@ -55,7 +56,7 @@ impl Senders {
         ensures entries { self.new.entries ≡ self.old.entries ++ entry ∷ [] }
         ensures room { self.new.room ≡ self.old.room }
     {
-        let number = number_of(entry.who);
+        let number = entry.number();
         append(&mut self.rows, self.last, entry);
         self.first = end_of(self.last, self.first, Some(number));
         self.last = Some(number);
@@ -106,7 +107,7 @@ impl Senders {
     {
         let found = self.has_thread(who);
         if found {
-            self.take_number(number_of(who));
+            self.take_number(thread_of(who).number);
         }
         found
     }
@@ -194,7 +195,7 @@ impl Senders {
     fn has_thread(&self, who: u64) -> bool
         ensures { IsKnown self.now.entries who result }
     {
-        match self.rows.get(usize::from(number_of(who))) {
+        match self.rows.get(usize::from(thread_of(who).number)) {
             Some(row) => is_of(row.entry, who),
             None => false,
         }

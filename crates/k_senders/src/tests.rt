@@ -1,5 +1,6 @@
 // A worked queue, and each call beside a plain vector.
-ghost use Rattle.k_senders.specs.Queue.{entry_of, number_of, stands};
+ghost use Rattle.k_senders.specs.Entries.{number_of};
+ghost use Rattle.k_senders.specs.Queue.{entry_of, stands};
 ghost use Rattle.std.specs.Prelude.{OnOk, true, ◌%◌, ◌<◌, ◌≡◌};
 
 use crate::{SenderEntry, SenderRow, Senders};

@@ -17,8 +17,8 @@ invariant_of-self c =
     let l : IsLinked c.self.inside.rows.items c.self.inside.first c.self.inside.last c.self.inside.count c.args.self.now.entries = linked_at _ _ _ _ _ (ap (λ (q : Queue). q.entries) c.self.view_is) c.self.invariant in
     let rows : List SenderRow = c.append.new.rows in
     let same : take c.self.inside.rows.len (rows ++ drop (length rows) c.self.inside.rows.items) ≡ rows = given_back _ _ _ (search rules) in
-    let pushed : IsLinked rows c.end_of-self-inside.result (Some c.number_of-number.result) (c.self.inside.count + 1) (c.args.self.now.entries ++ c.args.entry ∷ []) =
-    rw (c.end_of-self-inside.ensures, c.number_of-number.ensures) (linked_push c.self.inside.rows.items rows _ _ _ _ c.args.entry l c.requires.new (search rules)) in
+    let pushed : IsLinked rows c.end_of-self-inside.result (Some c.number-number.result) (c.self.inside.count + 1) (c.args.self.now.entries ++ c.args.entry ∷ []) =
+    rw (c.end_of-self-inside.ensures, c.number-number.ensures.number) (linked_push c.self.inside.rows.items rows _ _ _ _ c.args.entry l c.requires.new (search rules)) in
     rw same (linked_walk _ _ _ _ _ pushed)
 
 pub returns-clause-entries : goal.returns-clause-entries
@@ -26,6 +26,6 @@ returns-clause-entries c =
     let l : IsLinked c.self.inside.rows.items c.self.inside.first c.self.inside.last c.self.inside.count c.args.self.now.entries = linked_at _ _ _ _ _ (ap (λ (q : Queue). q.entries) c.self.view_is) c.self.invariant in
     let rows : List SenderRow = c.append.new.rows in
     let same : take c.self.inside.rows.len (rows ++ drop (length rows) c.self.inside.rows.items) ≡ rows = given_back _ _ _ (search rules) in
-    let pushed : IsLinked rows c.end_of-self-inside.result (Some c.number_of-number.result) (c.self.inside.count + 1) (c.args.self.now.entries ++ c.args.entry ∷ []) =
-    rw (c.end_of-self-inside.ensures, c.number_of-number.ensures) (linked_push c.self.inside.rows.items rows _ _ _ _ c.args.entry l c.requires.new (search rules)) in
+    let pushed : IsLinked rows c.end_of-self-inside.result (Some c.number-number.result) (c.self.inside.count + 1) (c.args.self.now.entries ++ c.args.entry ∷ []) =
+    rw (c.end_of-self-inside.ensures, c.number-number.ensures.number) (linked_push c.self.inside.rows.items rows _ _ _ _ c.args.entry l c.requires.new (search rules)) in
     rw same (walked_is _ _ _ _ _ pushed)

@@ -12,7 +12,8 @@ use Rattle.k_ids.specs.declared.histories.ReplyLine.{ReplyLine}
 use Rattle.k_ids.specs.declared.state_word.State.{State}
 use Rattle.k_ids.specs.declared.state_word.StateWord.{StateWord}
 use Rattle.k_senders.specs.declared.entries.SenderEntry.{SenderEntry}
-use Rattle.k_senders.specs.Queue.{Queue, number_of, without}
+use Rattle.k_senders.specs.Entries.{number_of}
+use Rattle.k_senders.specs.Queue.{Queue, without}
 use Rattle.k_ready.specs.Lists.{list_of, with_list}
 use Rattle.k_locks.specs.Shown.{shows}
 use Rattle.k_model.specs.Answers.{reply_to}

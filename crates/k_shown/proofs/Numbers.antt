@@ -37,10 +37,10 @@ module _ (m : Memory) (k : KernelState) (h : Shows m k) (s : IsSoundNumbers m) w
   worn_same n l = λ d. ((ap not (there_same n l) ∙ not_not (is_dead (k.place n).status)) d) && eqb (version_same n l d) last_version
 
   pub lowest_is : lowest_free m.numbers ≡ lowest (λ n. is_free (k.place n)) k.size
-  lowest_is = ap (lowest (is_free_number m.numbers)) s.count ∙ lowest_same (is_free_number m.numbers) (λ n. is_free (k.place n)) m.size free_same ∙ ap (lowest (λ n. is_free (k.place n))) (sym h.size)
+  lowest_is = ap (lowest (is_free_number m.numbers)) s.versions ∙ lowest_same (is_free_number m.numbers) (λ n. is_free (k.place n)) m.size free_same ∙ ap (lowest (λ n. is_free (k.place n))) (sym h.size)
 
   pub alive_is : alive_numbers m.numbers ≡ alive k
-  alive_is = ap (count (is_there m.numbers)) s.count ∙ count_same (is_there m.numbers) (λ n. not (is_dead (k.place n).status)) m.size there_same ∙ ap (count (λ n. not (is_dead (k.place n).status))) (sym h.size)
+  alive_is = ap (count (is_there m.numbers)) s.versions ∙ count_same (is_there m.numbers) (λ n. not (is_dead (k.place n).status)) m.size there_same ∙ ap (count (λ n. not (is_dead (k.place n).status))) (sym h.size)
 
   pub worn_is : worn_numbers m.numbers ≡ worn k
-  worn_is = ap (count (is_worn m.numbers)) s.count ∙ count_same (is_worn m.numbers) (λ n. is_dead (k.place n).status && eqb (k.place n).version last_version) m.size worn_same ∙ ap (count (λ n. is_dead (k.place n).status && eqb (k.place n).version last_version)) (sym h.size)
+  worn_is = ap (count (is_worn m.numbers)) s.versions ∙ count_same (is_worn m.numbers) (λ n. is_dead (k.place n).status && eqb (k.place n).version last_version) m.size worn_same ∙ ap (count (λ n. is_dead (k.place n).status && eqb (k.place n).version last_version)) (sym h.size)

@@ -9,7 +9,8 @@ use Rattle.k_ids.specs.declared.threads.ThreadId.{ThreadId}
 use Rattle.k_ids.specs.declared.threads.Status.TheVariants as status
 use Rattle.k_ids.specs.declared.state_word.StateWord.{StateWord}
 use Rattle.k_senders.specs.declared.entries.SenderEntry.{SenderEntry}
-use Rattle.k_senders.specs.Queue.{number_of, stands}
+use Rattle.k_senders.specs.Entries.{number_of}
+use Rattle.k_senders.specs.Queue.{stands}
 use Rattle.k_locks.specs.Shown.{shows}
 use Rattle.k_model.specs.State.{KernelState, Waiting, id_of, is_dead, is_present}
 use Rattle.k_model.specs.Sound.{IsSound, numbers}

@@ -19,7 +19,7 @@ use Rattle.k_ids.specs.declared.state_word.Result4.TheVariants as result4
 use Rattle.k_ids.specs.declared.state_word.State.{State}
 use Rattle.k_ids.specs.declared.state_word.State.TheVariants as state
 use Rattle.k_ids.specs.declared.state_word.StateWord.{StateWord}
-use Rattle.k_ids.specs.Messages.{message_bits}
+use Rattle.k_ids.specs.declared.threads.Message.{Message}
 use Rattle.k_ready.specs.Lists.{list_of}
 use Rattle.k_locks.specs.Shown.{shows}
 use Rattle.k_model.specs.Answers.{reply_to}
@@ -41,9 +41,9 @@ result_with reply.Gone = result4.Gone
 result_with r = result4.Plain
 
 -- and its mail word
-abbrev pub mail_with : Reply → ℕ → ℕ
-mail_with (reply.Got from message) bits = message_bits message
-mail_with r bits = bits
+abbrev pub mail_with : Reply → Message → Message
+mail_with (reply.Got from message) old = message
+mail_with r old = old
 
 -- A thread that has this reply runs.
 pub record IsWoken (m m' : Memory) (line : ReplyLine) : Type 0 where

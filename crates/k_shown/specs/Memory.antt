@@ -1,6 +1,6 @@
 -- The words and guarded data that the sections work on, by name, and which state of the sequential specification they show.
 -- Here no carrier is spoken of, and no lock is taken by another.
-use Rattle.std.specs.Prelude.{ℕ, ◌/◌, ◌%◌, ◌^◌, ◌≡◌, Bool, false, List, [], map}
+use Rattle.std.specs.Prelude.{ℕ, ◌≡◌, Bool, false, List, [], map}
 use Rattle.k_ids.specs.declared.state_word.State.{State}
 use Rattle.k_ids.specs.declared.state_word.State.TheVariants as state
 use Rattle.k_ids.specs.declared.state_word.StateWord.{StateWord}
@@ -8,20 +8,20 @@ use Rattle.k_ids.specs.declared.context_word.ContextWord.{ContextWord}
 use Rattle.k_senders.specs.declared.entries.SenderEntry.{SenderEntry}
 use Rattle.k_senders.specs.Queue.{Queue}
 use Rattle.k_ready.specs.Lists.{Ready}
-use Rattle.k_locks.specs.declared.numbers.Numbers.{Numbers}
+use Rattle.k_locks.specs.Numbers.{ThreadNumbers}
 use Rattle.k_locks.specs.Shown.{shows}
-use Rattle.k_ids.specs.Messages.{message_of_bits}
-use Rattle.k_ids.specs.declared.threads.ThreadId.{ThreadId}
+use Rattle.k_ids.specs.declared.threads.Message.{Message}
+use Rattle.k_senders.specs.Entries.{message_of, sender_of}
 use Rattle.k_model.specs.Maps.{upd}
 use Rattle.k_model.specs.State.{KernelState, Waiting, Place}
 
--- State words and context words are decoded. What is by thread number is a total map.
+-- State words, mail words and context words are decoded. What is by thread number is a total map.
 pub record Memory : Type 0 where
   pub size : ℕ  -- how many numbers the table has
   pub word : ℕ → StateWord
-  pub mail : ℕ → ℕ
+  pub mail : ℕ → Message
   pub context : ℕ → ContextWord
-  pub numbers : Numbers  -- which numbers have a thread
+  pub numbers : ThreadNumbers  -- which numbers have a thread
   pub queue : ℕ → Queue  -- who waits to send to the thread
   pub ready : Ready  -- who runs and waits for the processor
 
@@ -30,13 +30,13 @@ pub record Memory : Type 0 where
 abbrev pub with_word : Memory → ℕ → StateWord → Memory
 with_word m number w = record m { word = upd m.word number w }
 
-abbrev pub with_mail : Memory → ℕ → ℕ → Memory
-with_mail m number bits = record m { mail = upd m.mail number bits }
+abbrev pub with_mail : Memory → ℕ → Message → Memory
+with_mail m number message = record m { mail = upd m.mail number message }
 
 abbrev pub with_context : Memory → ℕ → ContextWord → Memory
 with_context m number w = record m { context = upd m.context number w }
 
-abbrev pub with_numbers : Memory → Numbers → Memory
+abbrev pub with_numbers : Memory → ThreadNumbers → Memory
 with_numbers m ns = record m { numbers = ns }
 
 abbrev pub with_queue : Memory → ℕ → Queue → Memory
@@ -44,10 +44,6 @@ with_queue m number q = record m { queue = upd m.queue number q }
 
 abbrev pub with_ready : Memory → Ready → Memory
 with_ready m lists = record m { ready = lists }
-
--- a version has 20 bits
-abbrev pub sender_of : SenderEntry → ThreadId
-sender_of e = record { number = e.who % 64; version = e.who / 64 % 2 ^ 20 }
 
 -- THE ABSTRACTION: what a number shows, by its word and its queue
 
@@ -60,7 +56,7 @@ joined_of state.Picking = false
 joined_of state.Ended = false
 
 abbrev pub waiting_of : SenderEntry → Waiting
-waiting_of e = (sender_of e, message_of_bits e.message)
+waiting_of e = (sender_of e, message_of e)
 
 abbrev pub waiting : Queue → List Waiting
 waiting q = map waiting_of q.entries

@@ -23,7 +23,7 @@ use Rattle.k_model.specs.State.{KernelState, is_dead, is_present}
 use Rattle.k_model.specs.Sound.{IsSound, IsListed}
 use Rattle.k_model.proofs.Maps.{upd_tells, upd_cases}
 use Rattle.k_lists.proofs.All.{all_weaker, all_push}
-use Rattle.k_shown.specs.Memory.{Memory, Shows, table, with_word, with_mail, with_queue, with_ready, with_context, with_numbers}
+use Rattle.k_shown.specs.Memory.{Memory, Shows, table, with_word, with_mail, with_queue, with_ready, with_numbers}
 use Rattle.k_locks.specs.Shown.{shows}
 use Rattle.k_locks.specs.Hands.{pushed as listed_last}
 use Rattle.k_shown.specs.Sound.{IsReady, IsSoundReady, IsSoundWords, IsSoundNumbers, IsSoundContexts, IsContext, IsSoundMemory}
@@ -199,19 +199,6 @@ then_threads a b c f g = record {
   context = g.context ∙ f.context;
   numbers = g.numbers ∙ f.numbers;
   room = λ n. g.room n ∙ f.room n;
-}
-
-pub contexted_words : (m : Memory) (n : ℕ) (w : ContextWord) → IsSoundWords m → IsSoundWords (with_context m n w)
-contexted_words m n w s = record {
-  words = s.words;
-  sending = s.sending;
-  receiving = s.receiving;
-  entries = s.entries;
-  ready = record {
-    count = s.ready.count;
-    ready = λ p. all_weaker (IsReady m p) (IsReady (with_context m n w) p) (λ id h. record { version = h.version; alive = h.alive; on = h.on; level = h.level }) (list_of m.ready.lists p) (s.ready.ready p);
-    once = s.ready.once;
-  };
 }
 
 pub numbered_words : (m : Memory) (ns : ThreadNumbers) → IsSoundWords m → IsSoundWords (with_numbers m ns)

@@ -52,17 +52,6 @@ shows_word m k n w p f h =
       waiting = grind (arith, upd_tells, h.waiting t);
     })
 
--- a place, a word and a queue change
-pub shows_both : (m : Memory) (k : KernelState) (n : ℕ) (w : StateWord) (q : Queue) (p : Place) → Fits p w q → Shows m k → Shows (with_queue (with_word m n w) n q) (with_place k n p)
-shows_both m k n w q p f h =
-    shows_from (with_queue (with_word m n w) n q) (with_place k n p) h.size
-    (λ t. record {
-      version = grind (arith, upd_tells, h.version t);
-      status = grind (arith, upd_tells, h.status t);
-      joined = grind (arith, upd_tells, h.joined t);
-      waiting = grind (arith, upd_tells, h.waiting t);
-    })
-
 -- a place and a queue change
 pub shows_queue : (m : Memory) (k : KernelState) (n : ℕ) (q : Queue) (p : Place) → Fits p (m.word n) q → Shows m k → Shows (with_queue m n q) (with_place k n p)
 shows_queue m k n q p f h =

@@ -11,7 +11,7 @@ use Rattle.k_ids.specs.declared.state_word.Result4.TheVariants as result4
 use Rattle.k_ids.specs.declared.state_word.StateWord.{StateWord}
 use Rattle.k_ids.specs.StateWords.{IsStateWord}
 use Rattle.k_ready.specs.Lists.{IsOnceEach, list_of, stands}
-use Rattle.k_ready.proofs.Appended.{stands_append}
+use Rattle.k_links.proofs.Appended.{stands_append}
 use Rattle.k_locks.specs.Numbers.{is_present as is_there}
 use Rattle.k_locks.specs.Shown.{shows}
 use Rattle.k_locks.specs.Hands.{pushed}
@@ -43,7 +43,7 @@ ready_none priority zero t small l p = ap (stands t) (elim (cases_lt p 64) [ inl
 ready_none priority (suc n) t small l p =
     let r = boot_ready priority n in
     list_cases (λ (ids : List ThreadId). stands t ids ≡ false) r.lists (priority n) (list_of r.lists (priority n) ++ record { number = n; version = 1 } ∷ []) p (let c = ready_count priority n in let s = small n (omega arith) in omega (arith, c, s))
-    (λ _. stands_append t (list_of r.lists (priority n)) (record { number = n; version = 1 }) ∙ or_from _ _ (ready_none priority n t (λ i q. small i (omega (arith, q))) (omega (arith, l)) (priority n)) (ne_eqb n t (omega (arith, l))))
+    (λ _. stands_append (λ (i : ThreadId). i.number) t (list_of r.lists (priority n)) (record { number = n; version = 1 }) ∙ or_from _ _ (ready_none priority n t (λ i q. small i (omega (arith, q))) (omega (arith, l)) (priority n)) (ne_eqb n t (omega (arith, l))))
     (λ _. ready_none priority n t (λ i q. small i (omega (arith, q))) (omega (arith, l)) p)
 
 module _ (versions : List ℕ) (threads : ℕ) (priority : ℕ → ℕ) (o : IsOpening versions threads priority) where

@@ -13,7 +13,7 @@ use Rattle.k_senders.specs.Queue.{Queue, without}
 use Rattle.k_senders.specs.Entries.{IsEntry}
 use Rattle.k_senders.specs.Entries.{number_of as number_of_entry}
 use Rattle.k_ready.specs.Lists.{IsOnceEach, list_of, stands}
-use Rattle.k_ready.proofs.Appended.{once_append}
+use Rattle.k_links.proofs.Appended.{once_append}
 use Rattle.k_ids.specs.declared.context_word.ContextWord.{ContextWord}
 use Rattle.k_locks.specs.Numbers.{ThreadNumbers}
 use Rattle.k_locks.specs.Numbers.{version_at}
@@ -122,7 +122,7 @@ pushed_words m id s v a on free =
             (all_push (IsReady m' p) (list_of m.ready.lists p) id (all_weaker (IsReady m p) (IsReady m' p) (same p) (list_of m.ready.lists p) (s.ready.ready p)) (record { version = v; alive = a; on = on; level = refl })))
             (λ _. all_weaker (IsReady m q) (IsReady m' q) (same q) (list_of m.ready.lists q) (s.ready.ready q));
         once = λ q. list_cases IsOnceEach m.ready.lists p (list_of m.ready.lists p ++ id ∷ []) q l
-            (λ _. once_append (list_of m.ready.lists p) id (s.ready.once p) (free p))
+            (λ _. once_append (λ (i : ThreadId). i.number) (list_of m.ready.lists p) id (s.ready.once p) (free p))
             (λ _. s.ready.once q);
       };
     }

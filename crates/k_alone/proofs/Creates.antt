@@ -1,9 +1,7 @@
 -- What a create makes of a memory: its words, numbers and contexts are sound.
-use Rattle.std.proofs.Common.{◌≡◌, ◌≢◌, ℕ, ◌+◌, ◌<◌, ◌≤◌, Bool, true, false, not, ◌&&◌, eqb, length, refl, sym, ap, ◌∙◌, subst, arith, inl, inr, Some}
+use Rattle.std.proofs.Common.{◌≡◌, ◌≢◌, ℕ, ◌+◌, ◌<◌, Bool, true, false, not, ◌&&◌, eqb, length, refl, sym, ap, ◌∙◌, subst, arith, inl, inr, Some}
 use Rattle.std.proofs.lemmas.Bool.{false≢true, and_parts, cases_eq}
 use Rattle.std.proofs.lemmas.List.{length-set, get_or-set_same, get_or-set_other}
-use Rattle.std.proofs.lemmas.Nat.Bits.{bit_at_set_same, bit_at_set_other}
-use Rattle.std.specs.Int.{w64}
 use Rattle.k_ids.specs.declared.threads.ThreadId.{ThreadId}
 use Rattle.k_ids.specs.declared.threads.Status.TheVariants as status
 use Rattle.k_ids.specs.declared.context_word.ContextWord.{ContextWord}
@@ -12,7 +10,7 @@ use Rattle.k_ids.specs.declared.state_word.State.{State}
 use Rattle.k_ids.specs.declared.state_word.State.TheVariants as state
 use Rattle.k_ids.specs.declared.state_word.StateWord.{StateWord}
 use Rattle.k_ids.specs.StateWords.{IsStateWord, Agrees}
-use Rattle.k_locks.specs.declared.numbers.Numbers.{Numbers}
+use Rattle.k_locks.specs.Numbers.{ThreadNumbers}
 use Rattle.k_locks.specs.Numbers.{version_at, with_thread}
 use Rattle.k_locks.specs.Numbers.{is_present as is_there}
 use Rattle.k_locks.specs.Shown.{shows}
@@ -92,31 +90,26 @@ module _ (m : Memory) (id : ThreadId) (priority : ℕ) (dead : is_dead (shows (m
       (pushed_words (making m id priority) id (made_words i) (ap (λ (w : StateWord). w.version) new_is) (ap (λ (w : StateWord). is_dead (shows w.state)) new_is) (ap (λ (w : StateWord). w.on) new_is) (off_nowhere m id.number i.ready off))
 
   -- the numbers and the contexts after the create
-  pub numbers_made : (m' : Memory) → m'.size ≡ m.size → m'.word ≡ (making m id priority).word → m'.numbers ≡ with_thread id.number m.numbers → id.number < m.size → m.size ≤ 64 → IsSoundNumbers m → IsSoundNumbers m'
-  numbers_made m' es ew en inside few s =
-      let ns = with_thread id.number m.numbers in
+  pub numbers_made : (m' : Memory) → m'.size ≡ m.size → m'.word ≡ (making m id priority).word → m'.numbers ≡ with_thread id.number m.numbers → id.number < m.size → IsSoundNumbers m → IsSoundNumbers m'
+  numbers_made m' es ew en inside s =
       let v1 = version_at m.numbers id.number + 1 in
-      let within : id.number < 64 = omega (arith, inside, few) in
       record {
-        count = ap (λ (x : Numbers). x.count) en ∙ s.count ∙ sym es;
-        versions = ap (λ (x : Numbers). length x.versions) en ∙ length-set m.numbers.versions id.number v1 ∙ s.versions;
-        version = λ t l. ap (λ (x : Numbers). version_at x t) en ∙ version_made t (subst (λ (x : ℕ). t < x) es l) ∙ sym (ap (λ (f : ℕ → StateWord). (f t).version) ew);
-        present = λ t l. ap (λ (x : Numbers). is_there x t) en ∙ there_made t (subst (λ (x : ℕ). t < x) es l) ∙ sym (ap (λ (f : ℕ → StateWord). not (is_dead (shows (f t).state))) ew);
+        versions = ap (λ (x : ThreadNumbers). length x.versions) en ∙ length-set m.numbers.versions id.number v1 ∙ s.versions ∙ sym es;
+        presences = ap (λ (x : ThreadNumbers). length x.present) en ∙ length-set m.numbers.present id.number true ∙ s.presences ∙ sym es;
+        version = λ t l. ap (λ (x : ThreadNumbers). version_at x t) en ∙ version_made t (subst (λ (x : ℕ). t < x) es l) ∙ sym (ap (λ (f : ℕ → StateWord). (f t).version) ew);
+        present = λ t l. ap (λ (x : ThreadNumbers). is_there x t) en ∙ there_made t (subst (λ (x : ℕ). t < x) es l) ∙ sym (ap (λ (f : ℕ → StateWord). not (is_dead (shows (f t).state))) ew);
       }
     where
-      within : id.number < 64
-      within = omega (arith, inside, few)
-
       version_made : (t : ℕ) → t < m.size → version_at (with_thread id.number m.numbers) t ≡ ((making m id priority).word t).version
       version_made t l = elim (cases_eq t id.number) [
-        | inl e ↦ rw e (get_or-set_same m.numbers.versions id.number (version_at m.numbers id.number + 1) 0 (omega (arith, within, s.versions)) ∙ ap (λ (x : ℕ). x + 1) (s.version id.number inside) ∙ sym next ∙ sym (ap (λ (w : StateWord). w.version) new_is))
+        | inl e ↦ rw e (get_or-set_same m.numbers.versions id.number (version_at m.numbers id.number + 1) 0 (omega (arith, inside, s.versions)) ∙ ap (λ (x : ℕ). x + 1) (s.version id.number inside) ∙ sym next ∙ sym (ap (λ (w : StateWord). w.version) new_is))
         | inr ne ↦ get_or-set_other m.numbers.versions id.number t (version_at m.numbers id.number + 1) 0 ne ∙ s.version t l ∙ sym (ap (λ (w : StateWord). w.version) (upd_other m.word id.number (new_word id.version priority) t ne))
       ]
 
       there_made : (t : ℕ) → t < m.size → is_there (with_thread id.number m.numbers) t ≡ not (is_dead (shows ((making m id priority).word t).state))
       there_made t l = elim (cases_eq t id.number) [
-        | inl e ↦ rw e (ap (λ (b : ℕ). eqb b 1) (bit_at_set_same w64 m.numbers.present id.number within) ∙ sym (ap (λ (w : StateWord). not (is_dead (shows w.state))) new_is))
-        | inr ne ↦ ap (λ (b : ℕ). eqb b 1) (bit_at_set_other w64 m.numbers.present id.number within t ne) ∙ s.present t l ∙ sym (ap (λ (w : StateWord). not (is_dead (shows w.state))) (upd_other m.word id.number (new_word id.version priority) t ne))
+        | inl e ↦ rw e (get_or-set_same m.numbers.present id.number true false (omega (arith, inside, s.presences)) ∙ sym (ap (λ (w : StateWord). not (is_dead (shows w.state))) new_is))
+        | inr ne ↦ get_or-set_other m.numbers.present id.number t true false ne ∙ s.present t l ∙ sym (ap (λ (w : StateWord). not (is_dead (shows w.state))) (upd_other m.word id.number (new_word id.version priority) t ne))
       ]
 
   pub contexts_made : (m' : Memory) → m'.word ≡ (making m id priority).word → m'.context ≡ (making m id priority).context → IsSoundContexts m → IsSoundContexts m'

@@ -5,6 +5,7 @@ use Rattle.std.proofs.lemmas.List.{append-nil, length-map}
 use Rattle.std.proofs.Math.Bool.{and-false}
 use Rattle.std.specs.List.{AllByRecursion, filter}
 use Rattle.k_ids.specs.declared.threads.ThreadId.{ThreadId}
+use Rattle.k_ids.specs.declared.threads.Message.{Message}
 use Rattle.k_ids.specs.declared.threads.Status.{Status}
 use Rattle.k_ids.specs.declared.threads.Status.TheVariants as status
 use Rattle.k_ids.specs.declared.calls.Phase.TheVariants as phase
@@ -22,11 +23,11 @@ use Rattle.k_ids.specs.declared.state_word.StateWord.{StateWord}
 use Rattle.k_senders.specs.declared.entries.SenderEntry.{SenderEntry}
 use Rattle.k_senders.specs.Queue.{Queue, without_thread}
 use Rattle.k_ready.specs.Lists.{list_of}
-use Rattle.k_locks.specs.declared.numbers.Numbers.{Numbers}
+use Rattle.k_locks.specs.Numbers.{ThreadNumbers}
 use Rattle.k_locks.specs.Shown.{shows}
 use Rattle.k_ipc.specs.Words.{on_in}
 use Rattle.k_threads.specs.declared.destroy.DestroyCall.{DestroyCall}
-use Rattle.k_threads.specs.Hands.{unlinked}
+use Rattle.k_threads.specs.Goods.{unlinked}
 use Rattle.k_model.specs.Maps.{upd}
 use Rattle.k_model.specs.State.{KernelState, is_dead, is_present, is_run, same_id}
 use Rattle.k_lists.proofs.All.{all_filter, all_map, all_weaker, filter_all, filter_same}
@@ -80,7 +81,7 @@ no_entries (e ∷ es) h =
 
 -- AT THE END
 
-module _ (c : DestroyCall) (m : Memory) (k : KernelState) (own : StateWord) (serial : ℕ) (good : IsSoundMemory m) (call : IsCaller m c.caller own) (here : is_present (table m) c.who ≡ true) (ne : c.caller.number ≢ c.who.number) (mf : Memory) (kf : KernelState) (h : Half m k c.who c.caller ⊥ (λ t. ⊥) (λ t. c.count ≤ t) mf kf) (v : Visited c m c.count mf) (lines : List ReplyLine) (gone : AllByRecursion (IsGone m c.who c.caller mf) lines) (ns : Numbers) where
+module _ (c : DestroyCall) (m : Memory) (k : KernelState) (own : StateWord) (serial : ℕ) (good : IsSoundMemory m) (call : IsCaller m c.caller own) (here : is_present (table m) c.who ≡ true) (ne : c.caller.number ≢ c.who.number) (mf : Memory) (kf : KernelState) (h : Half m k c.who c.caller ⊥ (λ t. ⊥) (λ t. c.count ≤ t) mf kf) (v : Visited c m c.count mf) (lines : List ReplyLine) (gone : AllByRecursion (IsGone m c.who c.caller mf) lines) (ns : ThreadNumbers) where
   abbrev left : Memory
   left = with_numbers mf ns
 
@@ -134,7 +135,7 @@ module _ (c : DestroyCall) (m : Memory) (k : KernelState) (own : StateWord) (ser
     all_weaker (IsGone m c.who c.caller mf) (λ line. same_id line.id c.caller ≡ false → IsWoken m left line)
         (λ line g _. record {
           word = g.word ∙ sym (ap (λ (r : Reply). on_in (state.Run (result_with r)) (m.word line.id.number)) g.reply);
-          mail = ap (λ (f : ℕ → ℕ). f line.id.number) h.mails ∙ sym (ap (λ (r : Reply). mail_with r (m.mail line.id.number)) g.reply);
+          mail = ap (λ (f : ℕ → Message). f line.id.number) h.mails ∙ sym (ap (λ (r : Reply). mail_with r (m.mail line.id.number)) g.reply);
         }) lines gone,
   )
 
@@ -184,7 +185,7 @@ module _ (c : DestroyCall) (m : Memory) (k : KernelState) (own : StateWord) (ser
     made = λ n was lives. absurd (not_made n was lives);
     woken = woken;
     own = λ _. ap (λ (w : StateWord). w.state) caller_same ∙ sym (ap (λ (r : Option Reply). state_told r (m.word c.caller.number).state) (reply_first c.caller serial reply.Killed lines));
-    mails = λ n _. ap (λ (f : ℕ → ℕ). f n) h.mails;
+    mails = λ n _. ap (λ (f : ℕ → Message). f n) h.mails;
     queues = queues;
     contexts = contexts context;
     lists = λ p. lists p ∙ ap (λ (xs : List ThreadId). xs ++ at_level m p (ids_of lines)) (stayed p) ∙ ap (λ (xs : List ThreadId). filter (λ id. is_present (table left) id) (list_of m.ready.lists p) ++ xs) (sym (ap (filter (λ id. eqb (mf.word id.number).priority p)) pushed_are ∙ levels p));

@@ -12,7 +12,7 @@ use Rattle.k_ids.specs.declared.state_word.StateWord.{StateWord}
 use Rattle.k_ready.specs.Lists.{IsOnceEach, has_thread, list_of}
 use Rattle.k_ready.specs.Lists.{stands as listed, without as cut}
 use Rattle.k_locks.specs.Shown.{shows}
-use Rattle.k_threads.specs.Hands.{without_it}
+use Rattle.k_threads.specs.Goods.{without_it}
 use Rattle.k_threads.specs.Words.{freed_word, thread_at}
 use Rattle.k_model.specs.State.{KernelState, same_id}
 use Rattle.k_lists.proofs.All.{all_filter, all_map, all_weaker, filter_all}

@@ -13,7 +13,7 @@ use Rattle.k_senders.specs.Queue.{Queue}
 use Rattle.k_senders.specs.Queue.{stands as waits}
 use Rattle.k_ready.specs.Lists.{IsOnceEach, list_of}
 use Rattle.k_locks.specs.Shown.{shows}
-use Rattle.k_threads.specs.Hands.{unlisted, without_it}
+use Rattle.k_threads.specs.Goods.{unlisted, without_it}
 use Rattle.k_threads.specs.Words.{dead_word}
 use Rattle.k_model.specs.Maps.{upd}
 use Rattle.k_model.specs.State.{KernelState, answered, id_of, is_dead, is_present}

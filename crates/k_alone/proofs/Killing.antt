@@ -13,7 +13,7 @@ use Rattle.k_ids.specs.declared.state_word.State.TheVariants as state
 use Rattle.k_ids.specs.declared.state_word.StateWord.{StateWord}
 use Rattle.k_ids.specs.StateWords.{IsStateWord}
 use Rattle.k_ready.specs.Lists.{IsOnceEach, list_of, stands}
-use Rattle.k_ready.proofs.Appended.{once_append}
+use Rattle.k_links.proofs.Appended.{once_append}
 use Rattle.k_locks.specs.Shown.{shows}
 use Rattle.k_threads.specs.Words.{dead_word, freed_word}
 use Rattle.k_model.specs.State.{KernelState, Place, answered, is_dead, is_present, waits_for_absent, with_status}
@@ -237,7 +237,7 @@ module _ (m : Memory) (k : KernelState) (who me : ThreadId) (V : Type 0) (S R : 
             (all_push (Listed V who mp p) (list_of m'.ready.lists p) id (all_weaker (Listed V who m' p) (Listed V who mp p) (same p) (list_of m'.ready.lists p) (h.ready p)) (inl (record { version = v; alive = a; on = on; level = refl }))))
             (λ _. all_weaker (Listed V who m' q) (Listed V who mp q) (same q) (list_of m'.ready.lists q) (h.ready q));
         once = λ q. list_cases IsOnceEach m'.ready.lists p (list_of m'.ready.lists p ++ id ∷ []) q l
-            (λ _. once_append (list_of m'.ready.lists p) id (h.once p) (free p))
+            (λ _. once_append (λ (i : ThreadId). i.number) (list_of m'.ready.lists p) id (h.once p) (free p))
             (λ _. h.once q);
         caller = h.caller;
         room = h.room;

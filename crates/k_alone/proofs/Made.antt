@@ -19,7 +19,7 @@ use Rattle.k_shown.specs.Rows.{Gives}
 use Rattle.k_shown.specs.Leaves.{Leaves}
 use Rattle.k_shown.specs.Memory.{Shows}
 use Rattle.k_shown.specs.Sound.{IsSoundWords, IsSoundNumbers, IsSoundContexts, IsSoundMemory}
-use Rattle.k_alone.specs.Alone.{Table, Run, Makes, Tells, IsFreed}
+use Rattle.k_alone.specs.Alone.{Kind, Run, Makes, Tells, IsFreed}
 use Rattle.k_shown.proofs.Kept.{SameThreads, sound_memory, sound_state, listed_state, numbers_kept, contexts_kept}
 use Rattle.k_alone.proofs.Runs.{Goes}
 use Rattle.k_shown.proofs.Statuses.{same_self}
@@ -53,7 +53,7 @@ pub record Parts {S : Type 0} (start final : Run S) (k k' : KernelState) (event 
   pub tells : Tells final.went (k'.place event.who.number).status (reply_to lines event.who event.serial)
   pub leaves : Leaves event o lines start.memory final.memory
 
-pub makes : {S : Type 0} (t : Table S) (start final : Run S) (k k' : KernelState) (event : Event) (o : Outcome) (freed : List Entry) (lines : List ReplyLine) → Goes t start final → Parts start final k k' event o freed lines → Makes t start k event
+pub makes : {S : Type 0} (t : Kind S) (start final : Run S) (k k' : KernelState) (event : Event) (o : Outcome) (freed : List Entry) (lines : List ReplyLine) → Goes t start final → Parts start final k k' event o freed lines → Makes t start k event
 makes t start final k k' event o freed lines g p =
     let s = sound_state start.memory k p.shown p.good in
     let l = listed_state start.memory k p.shown p.good in
@@ -77,7 +77,7 @@ makes t start final k k' event o freed lines g p =
     }
 
 -- one event, and the same threads
-pub makes_one : {S : Type 0} (t : Table S) (start final : Run S) (k k' : KernelState) (event : Event) (o : Outcome) (lines : List ReplyLine) → Shows start.memory k → IsSoundMemory start.memory → Gives k event o k' lines final.memory → Goes t start final → final.entries ≡ record { event = event; outcome = o } ∷ [] → SameThreads start.memory final.memory → IsSoundWords final.memory → Tells final.went (k'.place event.who.number).status (reply_to lines event.who event.serial) → Leaves event o lines start.memory final.memory → Makes t start k event
+pub makes_one : {S : Type 0} (t : Kind S) (start final : Run S) (k k' : KernelState) (event : Event) (o : Outcome) (lines : List ReplyLine) → Shows start.memory k → IsSoundMemory start.memory → Gives k event o k' lines final.memory → Goes t start final → final.entries ≡ record { event = event; outcome = o } ∷ [] → SameThreads start.memory final.memory → IsSoundWords final.memory → Tells final.went (k'.place event.who.number).status (reply_to lines event.who event.serial) → Leaves event o lines start.memory final.memory → Makes t start k event
 makes_one t start final k k' event o lines h good row g es same words tells leaves =
     makes t start final k k' event o [] lines g (record {
       shown = h;

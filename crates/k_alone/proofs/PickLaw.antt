@@ -13,22 +13,25 @@ use Rattle.k_ids.specs.declared.state_word.State.TheVariants as state
 use Rattle.k_ids.specs.declared.state_word.StateWord.{StateWord}
 use Rattle.k_ids.specs.StateWords.{IsPartner}
 use Rattle.k_senders.specs.declared.entries.SenderEntry.{SenderEntry}
-use Rattle.k_senders.specs.Queue.{Queue, number_of}
+use Rattle.k_senders.specs.Entries.{number_of}
+use Rattle.k_senders.specs.Queue.{Queue}
 use Rattle.k_locks.specs.Shown.{shows}
 use Rattle.k_ipc.specs.Candidates.{first_admitted}
 use Rattle.k_ipc.specs.ReceiveTable.{receive_of, stays_out}
-use Rattle.k_ipc.specs.Words.{sender_of, message_of, is_joined_to}
+use Rattle.k_senders.specs.Entries.{sender_of, message_of}
+use Rattle.k_ipc.specs.Words.{is_joined_to}
 use Rattle.k_model.specs.State.{KernelState, Waiting, is_dead, is_present, with_status}
 use Rattle.k_model.specs.Step.{taken, status_after}
 use Rattle.k_model.specs.Maps.{upd}
 use Rattle.k_model.proofs.Maps.{upd_cases, upd_same, upd_other}
 use Rattle.k_shown.specs.Memory.{Memory, Shows, joined_of, table, waiting, waiting_of, with_word, with_queue}
-use Rattle.k_shown.specs.Sound.{IsPicker, IsEntry, IsSoundMemory, IsSoundWords}
+use Rattle.k_senders.specs.Entries.{IsEntry}
+use Rattle.k_shown.specs.Sound.{IsPicker, IsSoundMemory, IsSoundWords}
 use Rattle.k_alone.specs.Alone.{Makes, begun}
 use Rattle.k_shown.specs.Rows.{Gives, IsIn, IsUnwanted, pick_of, told, sent_line}
 use Rattle.k_shown.proofs.Alike.{alike_from, picker_in}
 use Rattle.k_shown.proofs.ReceiveRows.{pick_takes_row, pick_waits_row}
-use Rattle.k_alone.specs.ReceiveAlone.{pick_call, receive_table}
+use Rattle.k_alone.specs.ReceiveAlone.{pick_call, receive_kind}
 use Rattle.k_shown.proofs.Kept.{Renews, SameThreads, pushed, pushed_words, off_nowhere, queued_words, all_without, renewed_words, same_threads, then_threads}
 use Rattle.k_shown.proofs.States.{renews, upd_swap}
 use Rattle.k_shown.specs.Words.{on_with}
@@ -61,7 +64,7 @@ none_before (w ∷ ws) u = absurd (false≢true (sym u.0))
 
 module _ (me : ThreadId) (m : Memory) (k : KernelState) (own : StateWord) (h : Shows m k) (good : IsSoundMemory m) (call : IsPicker m me own) (mine : IsPartner me) where
   abbrev Law : Type 0
-  Law = Makes (receive_table (k.place me.number).serial) (begun m (receive_of (pick_call me) own)) k (pick_of k me)
+  Law = Makes (receive_kind (k.place me.number).serial) (begun m (receive_of (pick_call me) own)) k (pick_of k me)
 
   lives : is_dead (shows (m.word me.number).state) ≡ false
   lives = ap (λ (x : StateWord). is_dead (shows x.state)) call.word ∙ ap (λ (x : State). is_dead (shows x)) call.picks
@@ -97,7 +100,7 @@ module _ (me : ThreadId) (m : Memory) (k : KernelState) (own : StateWord) (h : S
       let r = subst (λ (x : StateWord). Renews m n (on_with x (state.Receiving None))) call.word (renews m n (state.Receiving None) (good.words.words n) lives refl tt (λ id q. absurd (any_sends id q)) (λ id q. absurd (any_waits id q))) in
       let row = pick_waits_row m (with_word m n w) k me h picks (nobody_wants (m.queue n).entries none) w (record { version = call.version; status = refl; joined = refl }) (alike_from _ (with_word m n w) refl (λ n. refl) (λ n. refl)) in
       let st : ((with_status k1 n (status.Receiving None)).place n).status ≡ status.Receiving None = ap (λ p. p.status) (upd_same k1.place n (record (k1.place n) { status = status.Receiving None; joined = false })) in
-      makes_one (receive_table s) (begun m (receive_of (pick_call me) own)) _ k (with_status k1 n (status.Receiving None)) (pick_of k me) outcome.Waits []
+      makes_one (receive_kind s) (begun m (receive_of (pick_call me) own)) _ k (with_status k1 n (status.Receiving None)) (pick_of k me) outcome.Waits []
       h good row (runs_settled me s m own good call none) refl
       (same_threads m n w (sym (ap (λ (x : StateWord). x.version) call.word)) (sym lives)) (renewed_words m n w r good.words)
       (refl, rw st refl, rw st refl)
@@ -198,7 +201,7 @@ module _ (me : ThreadId) (m : Memory) (k : KernelState) (own : StateWord) (h : S
     stays_law : stays_out (m.word (number_of e)) ≡ true → Law
     stays_law stays =
         let s = (k.place me.number).serial in
-        makes_one (receive_table s) (begun m (receive_of (pick_call me) own)) _ k taken_state (pick_of k me) (outcome.Took (sender_of e) (message_of e)) lines_taken
+        makes_one (receive_kind s) (begun m (receive_of (pick_call me) own)) _ k taken_state (pick_of k me) (outcome.Took (sender_of e) (message_of e)) lines_taken
         h good (row_taken (with_queue (picked_memory sender.sends.joined) me.number (without_entry (m.queue me.number) e)) refl refl refl)
         (runs_picked me s m own good call e sender.sends.joined sender.sends.state sender.version mine here not_me some stays) refl
         threads_taken (queued_words _ me.number (without_entry (m.queue me.number) e) (all_without IsEntry (number_of e) (m.queue me.number).entries (good.words.entries me.number)) words_picked)
@@ -224,7 +227,7 @@ module _ (me : ThreadId) (m : Memory) (k : KernelState) (own : StateWord) (h : S
         subst (λ (p : ℕ). IsSoundWords (pushed m2 (sender_of e) p)) (ap (λ (x : StateWord). x.priority) is)
         (pushed_words m2 (sender_of e) words1 (ap (λ (x : StateWord). x.version) is ∙ sender.version) (ap (λ (x : StateWord). is_dead (shows x.state)) is) (ap (λ (x : StateWord). x.on) is) (off_nowhere m n good.words.ready both.1)) in
         let t = subst (λ (b : Bool). SameThreads m (with_queue (picked me s m own good call e b) me.number (without_entry (m.queue me.number) e))) plain threads_taken in
-        makes_one (receive_table s) (begun m (receive_of (pick_call me) own)) _ k taken_state (pick_of k me) (outcome.Took (sender_of e) (message_of e)) lines_taken
+        makes_one (receive_kind s) (begun m (receive_of (pick_call me) own)) _ k taken_state (pick_of k me) (outcome.Took (sender_of e) (message_of e)) lines_taken
         h good (row_taken (with_queue (pushed m2 (sender_of e) (m.word n).priority) me.number (without_entry (m.queue me.number) e)) refl (ap (λ (b : Bool). (picked_memory b).word) (sym plain)) refl)
         (runs_picked_off me s m own good call e st sender.version mine here not_me some off) refl
         (record { size = t.size; version = t.version; dead = t.dead; context = t.context; numbers = t.numbers; room = t.room })
@@ -240,7 +243,7 @@ module _ (me : ThreadId) (m : Memory) (k : KernelState) (own : StateWord) (h : S
     took_law : Law
     took_law = elim (cases_Bool (stays_out (m.word (number_of e)))) [ inl y ↦ stays_law y | inr y ↦ pushed_law y ]
 
-  pub pick_law : Makes (receive_table (k.place me.number).serial) (begun m (receive_of (pick_call me) own)) k (pick_of k me)
+  pub pick_law : Makes (receive_kind (k.place me.number).serial) (begun m (receive_of (pick_call me) own)) k (pick_of k me)
   pick_law = by_entry (first_admitted None (m.queue me.number).entries) refl
     where
       by_entry : (o : Option SenderEntry) → first_admitted None (m.queue me.number).entries ≡ o → Law

@@ -14,25 +14,28 @@ use Rattle.k_ids.specs.declared.state_word.State.{State}
 use Rattle.k_ids.specs.declared.state_word.State.TheVariants as state
 use Rattle.k_ids.specs.declared.state_word.StateWord.{StateWord}
 use Rattle.k_senders.specs.declared.entries.SenderEntry.{SenderEntry}
-use Rattle.k_senders.specs.Queue.{Queue, number_of}
+use Rattle.k_senders.specs.Entries.{number_of}
+use Rattle.k_senders.specs.Queue.{Queue}
 use Rattle.std.specs.List.{AllByRecursion}
 use Rattle.k_locks.specs.Shown.{shows, is_present_in}
 use Rattle.k_ipc.specs.declared.receive.ReceiveCall.{ReceiveCall}
 use Rattle.k_ipc.specs.Candidates.{first_admitted}
-use Rattle.k_ipc.specs.ReceiveTable.{receive_of, entry_by, stays_out}
-use Rattle.k_ipc.specs.Words.{sender_of, message_of, is_joined_to}
+use Rattle.k_ipc.specs.ReceiveTable.{receive_of, stays_out}
+use Rattle.k_senders.specs.Entries.{sender_of, message_of}
+use Rattle.k_ipc.specs.Words.{is_joined_to}
 use Rattle.k_model.specs.State.{KernelState, answered, is_dead, is_present, with_status, waits_for_absent, id_of}
 use Rattle.k_model.specs.Step.{called, taken, is_own, status_after}
 use Rattle.k_model.specs.Sound.{IsQueued}
 use Rattle.k_model.proofs.Maps.{upd_same, upd_other}
 use Rattle.k_shown.specs.Leaves.{state_told}
 use Rattle.k_shown.specs.Memory.{Memory, Shows, joined_of, table, waiting_of, with_queue, with_word}
-use Rattle.k_shown.specs.Sound.{IsCaller, IsEntry, IsSoundMemory, IsSoundWords}
+use Rattle.k_senders.specs.Entries.{IsEntry}
+use Rattle.k_shown.specs.Sound.{IsCaller, IsSoundMemory, IsSoundWords}
 use Rattle.k_alone.specs.Alone.{Makes, begun}
 use Rattle.k_shown.specs.Rows.{Gives, IsIn, call_of, called_by, next_serial, told, sent_line}
 use Rattle.k_shown.proofs.Alike.{alike_from, caller_in, present_same}
 use Rattle.k_shown.proofs.ReceiveRows.{gone_row, nobody_row, own_row, takes_row, waits_row}
-use Rattle.k_alone.specs.ReceiveAlone.{IsReceiveCall, receive_table}
+use Rattle.k_alone.specs.ReceiveAlone.{IsReceiveCall, receive_kind}
 use Rattle.k_shown.proofs.Kept.{Renews, SameThreads, pushed, pushed_words, off_nowhere, queued_words, all_without, renewed_words, same_threads, numbers_kept, contexts_kept}
 use Rattle.k_shown.proofs.States.{caller_present, renews, upd_twice}
 use Rattle.k_shown.specs.Words.{on_with}
@@ -43,7 +46,7 @@ use Rattle.k_alone.proofs.Receives.{taking, taken_shows, taken_word, without_ent
 use Rattle.k_shown.proofs.Left.{leaves_all}
 use Rattle.k_alone.proofs.ReceiveLeft.{gone_left, or_joined, pushed_left, sender_turns, taken_left, waits_left}
 use Rattle.k_alone.proofs.Made.{makes, makes_one, replay_on, reply_first}
-use Rattle.k_alone.proofs.ReceiveRuns.{runs_own, runs_nobody, runs_open, runs_closed, runs_gone, runs_taken, runs_pushed}
+use Rattle.k_alone.proofs.ReceiveRuns.{entry_by, runs_own, runs_nobody, runs_open, runs_closed, runs_gone, runs_taken, runs_pushed}
 use Rattle.k_shown.proofs.Statuses.{run_sends, run_waits, sends_one}
 
 -- whose status is sending
@@ -76,7 +79,7 @@ present_stays m m' s id = λ d. (eqb (s.version id.number d) id.version) && not 
 
 module _ (c : ReceiveCall) (m : Memory) (k : KernelState) (own : StateWord) (h : Shows m k) (good : IsSoundMemory m) (call : IsCaller m c.caller own) (parts : IsReceiveCall c) where
   abbrev Law : Type 0
-  Law = Makes (receive_table ((k.place c.caller.number).serial + 1)) (begun m (receive_of c own)) k (call_of k c.caller (phase.Receive c.from c.zero))
+  Law = Makes (receive_kind ((k.place c.caller.number).serial + 1)) (begun m (receive_of c own)) k (call_of k c.caller (phase.Receive c.from c.zero))
 
   caller_runs : (k.place c.caller.number).status ≡ status.Run
   caller_runs = h.status c.caller.number ∙ ap (λ (w : StateWord). shows w.state) call.word ∙ ap shows call.runs
@@ -94,7 +97,7 @@ module _ (c : ReceiveCall) (m : Memory) (k : KernelState) (own : StateWord) (h :
   own_law same =
       let me = c.caller in
       let s = next_serial k me in
-      makes_one (receive_table s) (begun m (receive_of c own)) _ k _ (call_of k me (phase.Receive c.from c.zero)) outcome.Own (told me s reply.Own ∷ [])
+      makes_one (receive_kind s) (begun m (receive_of c own)) _ k _ (call_of k me (phase.Receive c.from c.zero)) outcome.Own (told me s reply.Own ∷ [])
       h good (own_row m m k me c.from c.zero h runs same (alike_from m m refl (λ n. refl) (λ n. refl))) (runs_own c s m own good call same parts.receives) refl
       stays good.words
       (reply_first me s reply.Own [], called_runs)
@@ -104,7 +107,7 @@ module _ (c : ReceiveCall) (m : Memory) (k : KernelState) (own : StateWord) (h :
   nobody_law other none zero =
       let me = c.caller in
       let s = next_serial k me in
-      makes_one (receive_table s) (begun m (receive_of c own)) _ k _ (call_of k me (phase.Receive c.from c.zero)) outcome.Nobody (told me s reply.Nobody ∷ [])
+      makes_one (receive_kind s) (begun m (receive_of c own)) _ k _ (call_of k me (phase.Receive c.from c.zero)) outcome.Nobody (told me s reply.Nobody ∷ [])
       h good (nobody_row m m k me c.from c.zero h runs other (admits_none c.from (m.queue me.number).entries none) zero (alike_from m m refl (λ n. refl) (λ n. refl))) (runs_nobody c s m own good call other parts.receives none zero) refl
       stays good.words
       (reply_first me s reply.Nobody [], called_runs)
@@ -133,7 +136,7 @@ module _ (c : ReceiveCall) (m : Memory) (k : KernelState) (own : StateWord) (h :
       let me = c.caller in
       let s = next_serial k me in
       let other : is_own c.from me ≡ false = ap (λ (f : Option ThreadId). is_own f me) any in
-      makes_one (receive_table s) (begun m (receive_of c own)) _ k waiting_state (call_of k me (phase.Receive c.from c.zero)) outcome.Waits []
+      makes_one (receive_kind s) (begun m (receive_of c own)) _ k waiting_state (call_of k me (phase.Receive c.from c.zero)) outcome.Waits []
       h good (row_waits other none long) (runs_open c s m own good call any parts.receives none long) refl
       threads_waiting (receiving_sound m me own c.from call good.words parts.from (λ id q. absurd (none-some id (sym any ∙ q))))
       (refl, rw waits_status refl, rw waits_status refl)
@@ -144,7 +147,7 @@ module _ (c : ReceiveCall) (m : Memory) (k : KernelState) (own : StateWord) (h :
       let me = c.caller in
       let s = next_serial k me in
       let there : is_present (table m) from ≡ true = sym (present_stays m waiting_memory threads_waiting from) ∙ (sym (present_same waiting_memory from) ∙ here) in
-      makes_one (receive_table s) (begun m (receive_of c own)) _ k waiting_state (call_of k me (phase.Receive c.from c.zero)) outcome.Waits []
+      makes_one (receive_kind s) (begun m (receive_of c own)) _ k waiting_state (call_of k me (phase.Receive c.from c.zero)) outcome.Waits []
       h good (row_waits other none long) (runs_closed c s m own good call from closed other parts.receives none long parts.from here) refl
       threads_waiting (receiving_sound m me own c.from call good.words parts.from (λ id q. subst (λ (x : ThreadId). is_present (table m) x ≡ true) (same_Some from id (sym closed ∙ q)) there))
       (refl, rw waits_status refl, rw waits_status refl)
@@ -175,7 +178,7 @@ module _ (c : ReceiveCall) (m : Memory) (k : KernelState) (own : StateWord) (h :
       let freed : Gives k2 (record { who = me; serial = s; act = act.Gone }) outcome.Freed k3 (told me s reply.Gone ∷ []) m2 =
       subst (λ (x : ℕ). Gives k2 (record { who = me; serial = x; act = act.Gone }) outcome.Freed (answered (with_status k2 n status.Run) me x reply.Gone) (told me x reply.Gone ∷ []) m2) serial
       (gone_row m1 m2 k2 me (status.Receiving c.from) w waits.shows is absent (record { version = call.version; status = refl; joined = refl }) (alike_from _ m2 refl (λ n. refl) (λ n. refl))) in
-      makes (receive_table s) (begun m (receive_of c own)) _ k k3 (call_of k me (phase.Receive c.from c.zero)) outcome.Waits (entry_by s c act.Gone outcome.Freed ∷ []) (record { id = me; serial = s; reply = reply.Gone } ∷ [])
+      makes (receive_kind s) (begun m (receive_of c own)) _ k k3 (call_of k me (phase.Receive c.from c.zero)) outcome.Waits (entry_by s c act.Gone outcome.Freed ∷ []) (record { id = me; serial = s; reply = reply.Gone } ∷ [])
       (runs_gone c s m own good call from closed other parts.receives none long parts.from gone)
       (record {
         shown = h;
@@ -247,7 +250,7 @@ module _ (c : ReceiveCall) (m : Memory) (k : KernelState) (own : StateWord) (h :
         let me = c.caller in
         let s = next_serial k me in
         let j = sender.sends.joined in
-        makes_one (receive_table s) (begun m (receive_of c own)) _ k taken_state (call_of k me (phase.Receive c.from c.zero)) (outcome.Took (sender_of e) (message_of e)) lines_taken
+        makes_one (receive_kind s) (begun m (receive_of c own)) _ k taken_state (call_of k me (phase.Receive c.from c.zero)) (outcome.Took (sender_of e) (message_of e)) lines_taken
         h good (row_taken (taking m me e j) refl refl refl)
         (runs_taken c s m own good call e j sender.sends.state sender.version parts.caller (caller_present m me own call) other parts.receives some stays) refl
         threads_taken (queued_words _ me.number (without_entry (m.queue me.number) e) (all_without IsEntry (number_of e) (m.queue me.number).entries (good.words.entries me.number)) (words_taken m me e j sender.sends.state good.words parts.caller (caller_present m me own call)))
@@ -276,7 +279,7 @@ module _ (c : ReceiveCall) (m : Memory) (k : KernelState) (own : StateWord) (h :
         (pushed_words m1 (sender_of e) words1 (ap (λ (x : StateWord). x.version) is ∙ sender.version) (ap (λ (x : StateWord). is_dead (shows x.state)) is) (ap (λ (x : StateWord). x.on) is) (off_nowhere m n good.words.ready both.1)) in
         let t = subst (λ (b : Bool). SameThreads m (taking m me e b)) plain threads_taken in
         let mp = with_queue (pushed m1 (sender_of e) (m.word n).priority) me.number (without_entry (m.queue me.number) e) in
-        makes_one (receive_table s) (begun m (receive_of c own)) _ k taken_state (call_of k me (phase.Receive c.from c.zero)) (outcome.Took (sender_of e) (message_of e)) lines_taken
+        makes_one (receive_kind s) (begun m (receive_of c own)) _ k taken_state (call_of k me (phase.Receive c.from c.zero)) (outcome.Took (sender_of e) (message_of e)) lines_taken
         h good (row_taken mp refl (ap (λ (b : Bool). (taking m me e b).word) (sym plain)) refl)
         (runs_pushed c s m own good call e st sender.version parts.caller (caller_present m me own call) other parts.receives some off) refl
         (record { size = t.size; version = t.version; dead = t.dead; context = t.context; numbers = t.numbers; room = t.room })
@@ -307,5 +310,5 @@ module _ (c : ReceiveCall) (m : Memory) (k : KernelState) (own : StateWord) (h :
       by_entry None e = none_law other e
       by_entry (Some x) e = took_law x other e
 
-  pub receive_law : Makes (receive_table ((k.place c.caller.number).serial + 1)) (begun m (receive_of c own)) k (call_of k c.caller (phase.Receive c.from c.zero))
+  pub receive_law : Makes (receive_kind ((k.place c.caller.number).serial + 1)) (begun m (receive_of c own)) k (call_of k c.caller (phase.Receive c.from c.zero))
   receive_law = elim (cases_Bool (is_own c.from c.caller)) [ inl own ↦ own_law own | inr other ↦ any_law other ]

@@ -3,6 +3,7 @@ use Rattle.std.proofs.Common.{◌≡◌, ◌≢◌, ℕ, Bool, true, false, ◌|
 use Rattle.std.proofs.lemmas.Bool.{false≢true, ne_eqb}
 use Rattle.std.specs.List.{AllByRecursion}
 use Rattle.k_ids.specs.declared.threads.ThreadId.{ThreadId}
+use Rattle.k_ids.specs.declared.threads.Message.{Message}
 use Rattle.k_ids.specs.declared.threads.Status.TheVariants as status
 use Rattle.k_ids.specs.declared.calls.Phase.{Phase}
 use Rattle.k_ids.specs.declared.calls.Act.{Act}
@@ -18,9 +19,11 @@ use Rattle.k_ids.specs.declared.state_word.State.{State}
 use Rattle.k_ids.specs.declared.state_word.State.TheVariants as state
 use Rattle.k_ids.specs.declared.state_word.StateWord.{StateWord}
 use Rattle.k_senders.specs.declared.entries.SenderEntry.{SenderEntry}
-use Rattle.k_senders.specs.Queue.{Queue, number_of}
+use Rattle.k_senders.specs.Entries.{number_of}
+use Rattle.k_senders.specs.Queue.{Queue}
 use Rattle.k_locks.specs.Shown.{shows}
-use Rattle.k_ipc.specs.Words.{is_joined_to, message_of, sender_of}
+use Rattle.k_senders.specs.Entries.{message_of, sender_of}
+use Rattle.k_ipc.specs.Words.{is_joined_to}
 use Rattle.k_model.specs.Answers.{reply_to}
 use Rattle.k_model.specs.Maps.{upd}
 use Rattle.k_model.specs.State.{is_run, same_id}
@@ -131,7 +134,7 @@ module _ (m : Memory) (me : ThreadId) (serial : ℕ) (good : IsSoundMemory m) (e
     event = record { who = me; serial = serial; act = a }
 
     woken_word : b ≡ false → IsWoken m m' sent
-    woken_word f = record { word = word ∙ ap (λ (c : Bool). taken_word c me (m.word (number_of e))) (sym joined ∙ f); mail = ap (λ (g : ℕ → ℕ). g (number_of e)) mails }
+    woken_word f = record { word = word ∙ ap (λ (c : Bool). taken_word c me (m.word (number_of e))) (sym joined ∙ f); mail = ap (λ (g : ℕ → Message). g (number_of e)) mails }
 
     own_told : (m'.word me.number).state ≡ state_with a (reply_to replies me serial) (m.word me.number).state
     own_told = own ∙ sym (ap (λ (r : Option Reply). state_with a r (m.word me.number).state) (reply_first me serial (reply.Got (sender_of e) (message_of e)) (sent_line (sender_of e) sent_serial (status_after b me))))
@@ -142,7 +145,7 @@ module _ (m : Memory) (me : ThreadId) (serial : ℕ) (good : IsSoundMemory m) (e
     -- the sender was on, or its send was joined
     pub taken_left : (j || (m.word (number_of e)).on) ≡ true → m'.ready ≡ m.ready → Leaves event took replies m m'
     taken_left stays same =
-        leaves_from event took replies m m' t turned (woken_all (IsWoken m m') b woken_word) (λ _. own_told) (λ n _. ap (λ (g : ℕ → ℕ). g n) mails) queues_left
+        leaves_from event took replies m m' t turned (woken_all (IsWoken m m') b woken_word) (λ _. own_told) (λ n _. ap (λ (g : ℕ → Message). g n) mails) queues_left
         (lists_kept m m' (pushed_by m me took replies) (all_stay m m' good.words.ready t) same (none_pushed b (ap (λ (c : Bool). c || (m.word (number_of e)).on) joined ∙ stays)))
         (ap (λ r. r.running) same)
 
@@ -151,6 +154,6 @@ module _ (m : Memory) (me : ThreadId) (serial : ℕ) (good : IsSoundMemory m) (e
     pushed_left plain off same =
         let p = (m.word (number_of e)).priority in
         let level : (m'.word (number_of e)).priority ≡ p = ap (λ (x : StateWord). x.priority) (word ∙ ap (λ (c : Bool). taken_word c me (m.word (number_of e))) plain) in
-        leaves_from event took replies m m' t turned (woken_all (IsWoken m m') b woken_word) (λ _. own_told) (λ n _. ap (λ (g : ℕ → ℕ). g n) mails) queues_left
+        leaves_from event took replies m m' t turned (woken_all (IsWoken m m') b woken_word) (λ _. own_told) (λ n _. ap (λ (g : ℕ → Message). g n) mails) queues_left
         (lists_pushed m m' (pushed_by m me took replies) (sender_of e) p (all_stay m m' good.words.ready t) good.words.ready.count same (one_pushed b (joined ∙ plain) off) level (good.words.words (number_of e)).priority)
         (ap (λ r. r.running) same)

@@ -9,13 +9,14 @@ use Rattle.k_ids.specs.declared.state_word.State.TheVariants as state
 use Rattle.k_ids.specs.declared.state_word.StateWord.{StateWord}
 use Rattle.k_ids.specs.StateWords.{IsPartner}
 use Rattle.k_senders.specs.declared.entries.SenderEntry.{SenderEntry}
-use Rattle.k_senders.specs.Queue.{Queue, number_of, without}
+use Rattle.k_senders.specs.Entries.{number_of}
+use Rattle.k_senders.specs.Queue.{Queue, without}
 use Rattle.k_locks.specs.Shown.{shows}
 use Rattle.k_model.specs.State.{is_dead, is_present}
 use Rattle.k_model.specs.Step.{status_after}
 use Rattle.k_shown.specs.Memory.{Memory, table, with_word, with_queue, joined_of}
 use Rattle.k_shown.specs.Rows.{IsWordOf}
-use Rattle.k_ipc.specs.Words.{sender_of}
+use Rattle.k_senders.specs.Entries.{sender_of}
 use Rattle.k_shown.specs.Sound.{IsCaller, IsSoundWords}
 use Rattle.k_shown.proofs.Kept.{Renews, SameThreads, room_kept, same_threads, then_threads, renewed_words}
 use Rattle.k_shown.proofs.States.{renews, alive_version}

@@ -1,5 +1,5 @@
 -- A send alone makes the specification's event.
-use Rattle.std.proofs.Common.{◌≡◌, ◌≢◌, ℕ, ◌+◌, ◌*◌, ◌/◌, ◌%◌, ◌^◌, ◌<◌, true, false, List, [], ◌∷◌, ◌++◌, refl, sym, ap, ◌∙◌, subst, arith, Option, Some, inl, inr}
+use Rattle.std.proofs.Common.{◌≡◌, ◌≢◌, ℕ, ◌+◌, ◌^◌, ◌<◌, true, false, List, [], ◌∷◌, ◌++◌, refl, sym, ap, ◌∙◌, subst, arith, Option, Some, inl, inr}
 use Rattle.std.proofs.lemmas.Bool.{and_parts, eqb-true, cases_Bool, cond_both, not-true}
 use Rattle.std.proofs.lemmas.List.{map_push}
 use Rattle.k_ids.specs.declared.threads.ThreadId.{ThreadId}
@@ -15,16 +15,15 @@ use Rattle.k_ids.specs.declared.state_word.Result4.TheVariants as result4
 use Rattle.k_ids.specs.declared.state_word.State.{State}
 use Rattle.k_ids.specs.declared.state_word.State.TheVariants as state
 use Rattle.k_ids.specs.declared.state_word.StateWord.{StateWord}
-use Rattle.k_ids.specs.Messages.{message_bits}
-use Rattle.k_ids.proofs.MessagePacked.{message-read}
+use Rattle.k_senders.proofs.EntrySpelled.{entry_message, entry_sender, entry_small}
 use Rattle.k_locks.specs.Shown.{shows, is_present_in, found_in}
 use Rattle.k_ipc.specs.declared.send.Manner.{Manner}
 use Rattle.k_ipc.specs.declared.send.Manner.TheVariants as manner
 use Rattle.k_ipc.specs.declared.send.SendCall.{SendCall}
 use Rattle.k_ipc.specs.declared.send.SendLocked.TheVariants.{Release}
 use Rattle.k_ipc.specs.declared.send.SendRelease.TheVariants as release
-use Rattle.k_ipc.specs.SendTable.{send_of, phase_by, passed_end, is_joined, after_receiver, refusal_of, entry_of}
-use Rattle.k_ipc.specs.Words.{entry_for}
+use Rattle.k_ipc.specs.SendTable.{send_of, phase_by, passed_end, is_joined, after_receiver, refusal_of, point_of}
+use Rattle.k_senders.specs.Entries.{entry_for}
 use Rattle.k_model.specs.State.{KernelState, Waiting, answered, is_dead, is_present, is_run, same_id, takes_from, with_status}
 use Rattle.k_model.specs.Step.{called, sent, passed}
 use Rattle.k_model.specs.Answers.{reply_to}
@@ -33,14 +32,14 @@ use Rattle.k_model.proofs.Maps.{upd_same}
 use Rattle.k_model.proofs.Places.{queued_status}
 use Rattle.k_shown.specs.Leaves.{made_by, state_told}
 use Rattle.k_shown.specs.Memory.{Memory, Shows, table, joined_of, waiting, waiting_of}
-use Rattle.k_shown.specs.Sound.{IsCaller, IsEntry, IsSoundMemory, IsSoundWords}
+use Rattle.k_shown.specs.Sound.{IsCaller, IsSoundMemory, IsSoundWords}
 use Rattle.k_alone.specs.Alone.{Makes, Tells, begun}
 use Rattle.k_shown.specs.Rows.{Answers, Gives, IsIn, Sending, call_of, called_by, next_serial, sending_of, told, sent_line}
 use Rattle.k_shown.proofs.Alike.{alike_from, caller_in, present_same}
 use Rattle.k_shown.proofs.SendRows.{absent_row, busy_row, own_row, passes_row, same_turned, waits_row}
 use Rattle.k_senders.specs.Queue.{Queue}
-use Rattle.k_ipc.specs.Hands.{IsRoom}
-use Rattle.k_alone.specs.SendAlone.{Delivers, IsSendCall, send_table}
+use Rattle.k_ipc.specs.Words.{IsRoom}
+use Rattle.k_alone.specs.SendAlone.{Delivers, IsSendCall, send_kind}
 use Rattle.k_shown.proofs.Kept.{SameThreads, pushed, pushed_words, off_nowhere}
 use Rattle.k_shown.proofs.States.{caller_present, apart_numbers, upd_swap}
 use Rattle.k_shown.specs.Words.{on_with}
@@ -53,14 +52,7 @@ use Rattle.k_alone.proofs.SendRuns.{state_after, runs_own, runs_refused, runs_qu
 
 -- an entry shows its sender and its message
 pub entry_shows : (who : ThreadId) (message : Message) → who.number < 64 → who.version < 2 ^ 20 → message.low < 2 ^ 32 → waiting_of (entry_for who message) ≡ (who, message)
-entry_shows who message n v l =
-    let en : (64 * who.version + who.number) % 64 ≡ who.number = omega arith in
-    let ev : (64 * who.version + who.number) / 64 % 2 ^ 20 ≡ who.version = omega arith in
-    let em = message-read message l in
-    λ d. (record { number = en d; version = ev d }, em d)
-
-entry_spelled : (who : ThreadId) (message : Message) → who.number < 64 → who.version < 2 ^ 20 → IsEntry (entry_for who message)
-entry_spelled who message n v = omega arith
+entry_shows who message n v l = λ d. (entry_sender who message n v d, entry_message who message l d)
 
 after_joined : (a : Manner) (to : ThreadId) → joined_of (state_after a to) ≡ false
 after_joined manner.Plain to = refl
@@ -114,7 +106,7 @@ room_for m me own good call n inside =
 
 module _ (c : SendCall) (m : Memory) (k : KernelState) (own : StateWord) (h : Shows m k) (good : IsSoundMemory m) (call : IsCaller m c.caller own) (parts : IsSendCall c) where
   abbrev Law : Type 0
-  Law = Makes (send_table ((k.place c.caller.number).serial + 1)) (begun m (send_of c own)) k (call_of k c.caller (phase_by c c.manner))
+  Law = Makes (send_kind ((k.place c.caller.number).serial + 1)) (begun m (send_of c own)) k (call_of k c.caller (phase_by c c.manner))
 
   caller_runs : (k.place c.caller.number).status ≡ status.Run
   caller_runs = h.status c.caller.number ∙ ap (λ (w : StateWord). shows w.state) call.word ∙ ap shows call.runs
@@ -138,18 +130,18 @@ module _ (c : SendCall) (m : Memory) (k : KernelState) (own : StateWord) (h : Sh
   own_law same =
       let me = c.caller in
       let s = next_serial k me in
-      makes_one (send_table s) (begun m (send_of c own)) _ k _ (call_of k me (phase_by c c.manner)) outcome.Own (told me s reply.Own ∷ [])
+      makes_one (send_kind s) (begun m (send_of c own)) _ k _ (call_of k me (phase_by c c.manner)) outcome.Own (told me s reply.Own ∷ [])
       h good (own_row m m k me (phase_by c c.manner) what h runs what_is same (alike_from m m refl (λ n. refl) (λ n. refl))) (runs_own c s m own good call same) refl
       stays good.words
       (reply_first me s reply.Own [], called_runs)
       (leaves_all (call_of k me (phase_by c c.manner)) outcome.Own (told me s reply.Own ∷ []) m good.words.ready (refl, tt) refl (ap (λ (x : Option Reply). state_told x (m.word me.number).state) (reply_first me s reply.Own [])))
 
   -- refused with this reply
-  refused_law : (r : Reply) (o : Outcome) → ((s : State) → state_told (Some r) s ≡ s) → made_by o ≡ [] → same_id c.to c.caller ≡ false → after_receiver c (m.word c.to.number) ≡ Release (release.Refused r) → refusal_of (next_serial k c.caller) c (m.word c.to.number) ≡ Some (entry_of (next_serial k c.caller) c o) → Answers k c.caller (phase_by c c.manner) o r m → Law
+  refused_law : (r : Reply) (o : Outcome) → ((s : State) → state_told (Some r) s ≡ s) → made_by o ≡ [] → same_id c.to c.caller ≡ false → after_receiver c (m.word c.to.number) ≡ Release (release.Refused r) → refusal_of c (m.word c.to.number) ≡ Some (point_of c o) → Answers k c.caller (phase_by c c.manner) o r m → Law
   refused_law r o kept nobody other leads tells row =
       let me = c.caller in
       let s = next_serial k me in
-      makes_one (send_table s) (begun m (send_of c own)) _ k _ (call_of k me (phase_by c c.manner)) o (told me s r ∷ [])
+      makes_one (send_kind s) (begun m (send_of c own)) _ k _ (call_of k me (phase_by c c.manner)) o (told me s r ∷ [])
       h good row (runs_refused c s m own good call r o other leads tells) refl
       stays good.words
       (reply_first me s r [], called_runs)
@@ -179,10 +171,10 @@ module _ (c : SendCall) (m : Memory) (k : KernelState) (own : StateWord) (h : Sh
       let longer : waiting q ≡ waiting (m.queue c.to.number) ++ (me, c.message) ∷ [] = map_push waiting_of (m.queue c.to.number).entries e ∙ ap (λ (x : Waiting). waiting (m.queue c.to.number) ++ x ∷ []) (entry_shows me c.message parts.caller.number parts.caller.version parts.low) in
       let row = waits_row m _ k me (phase_by c c.manner) what h runs what_is other here takes zero w q (record { version = call.version; status = refl; joined = refl }) longer (alike_from _ (waits_at m me own j c.to e) refl (λ n. refl) (λ n. refl)) in
       let st = queued_status (called_by k me) me c.to c.message j me.number (apart other here) ∙ upd_same (λ u. ((called_by k me).place u).status) me.number (status.Sending c.to) in
-      makes_one (send_table s) (begun m (send_of c own)) _ k _ (call_of k me (phase_by c c.manner)) outcome.Waits []
+      makes_one (send_kind s) (begun m (send_of c own)) _ k _ (call_of k me (phase_by c c.manner)) outcome.Waits []
       h good row (runs_queued c s m own good call other (rw (here, takes, zero) refl) (rw (here, takes, zero) refl) parts.to (room_for m me own good call c.to.number (present_inside m c.to good (sym (present_same m c.to) ∙ here)))) refl
       (queued_threads m me own j c.to e call)
-      (queued_sound m me own j c.to e call good.words (entry_spelled me c.message parts.caller.number parts.caller.version) parts.to (sym (present_same m c.to) ∙ here) (apart other here))
+      (queued_sound m me own j c.to e call good.words (entry_small me c.message parts.caller.number parts.caller.version) parts.to (sym (present_same m c.to) ∙ here) (apart other here))
       (refl, rw st refl, rw st refl)
       (waits_left m me own s (phase_by c c.manner) c.to good call j e (queued_threads m me own j c.to e call))
 
@@ -197,7 +189,7 @@ module _ (c : SendCall) (m : Memory) (k : KernelState) (own : StateWord) (h : Sh
     passed_to = passed (called_by k c.caller) c.caller (next_serial k c.caller) c.to c.message (shows (state_after c.manner c.to))
 
     abbrev memory_after : Memory
-    memory_after = passing m c.caller own (state_after c.manner c.to) c.to (message_bits c.message)
+    memory_after = passing m c.caller own (state_after c.manner c.to) c.to c.message
 
     abbrev got_line : ReplyLine
     got_line = told c.to (k.place c.to.number).serial (reply.Got c.caller c.message)
@@ -217,11 +209,11 @@ module _ (c : SendCall) (m : Memory) (k : KernelState) (own : StateWord) (h : Sh
         (alike_from _ m' es (λ n. ap (λ (f : ℕ → StateWord). f n) (ew ∙ upd_swap m.word me.number c.to.number w v (apart other here))) (λ n. ap (λ (f : ℕ → Queue). f n) eq))
 
     threads_after : SameThreads m memory_after
-    threads_after = passed_threads m c.caller own (state_after c.manner c.to) c.to (message_bits c.message) call (apart other here) alive (after_alive c.manner c.to)
+    threads_after = passed_threads m c.caller own (state_after c.manner c.to) c.to c.message call (apart other here) alive (after_alive c.manner c.to)
 
     words_after : IsSoundWords memory_after
     words_after =
-        passed_words m c.caller own (state_after c.manner c.to) c.to (message_bits c.message) call (apart other here) good.words (after_partner c.manner c.to parts.to) (after_live c.manner c.to)
+        passed_words m c.caller own (state_after c.manner c.to) c.to c.message call (apart other here) good.words (after_partner c.manner c.to parts.to) (after_live c.manner c.to)
         (λ id q. absurd (after_sends c.manner c.to id q))
         (λ id q. subst (λ (x : ThreadId). is_present (table m) x ≡ true) (after_waits c.manner c.to id q) (sym (present_same m c.to) ∙ here))
         alive parts.caller
@@ -240,7 +232,7 @@ module _ (c : SendCall) (m : Memory) (k : KernelState) (own : StateWord) (h : Sh
     passed_on_law was =
         let me = c.caller in
         let s = next_serial k me in
-        makes_one (send_table s) (begun m (send_of c own)) _ k passed_to (call_of k me (phase_by c c.manner)) outcome.Passed lines_after
+        makes_one (send_kind s) (begun m (send_of c own)) _ k passed_to (call_of k me (phase_by c c.manner)) outcome.Passed lines_after
         h good (row_after memory_after refl refl refl)
         (runs_passed_on c s m own good call other (apart other here) (rw (here, takes) refl) (rw (here, takes) refl) parts alive was) refl
         threads_after words_after
@@ -257,7 +249,7 @@ module _ (c : SendCall) (m : Memory) (k : KernelState) (own : StateWord) (h : Sh
         subst (λ (p : ℕ). IsSoundWords (pushed memory_after c.to p)) (ap (λ (w : StateWord). w.priority) is)
         (pushed_words memory_after c.to words_after (ap (λ (w : StateWord). w.version) is ∙ version_there) (ap (λ (w : StateWord). is_dead (shows w.state)) is) (ap (λ (w : StateWord). w.on) is) (off_nowhere m c.to.number good.words.ready was)) in
         let t = threads_after in
-        makes_one (send_table s) (begun m (send_of c own)) _ k passed_to (call_of k me (phase_by c c.manner)) outcome.Passed lines_after
+        makes_one (send_kind s) (begun m (send_of c own)) _ k passed_to (call_of k me (phase_by c c.manner)) outcome.Passed lines_after
         h good (row_after (pushed memory_after c.to (m.word c.to.number).priority) refl refl refl)
         (runs_passed_off c s m own good call other (apart other here) (rw (here, takes) refl) (rw (here, takes) refl) parts alive was) refl
         (record { size = t.size; version = t.version; dead = t.dead; context = t.context; numbers = t.numbers; room = t.room })
@@ -268,7 +260,7 @@ module _ (c : SendCall) (m : Memory) (k : KernelState) (own : StateWord) (h : Sh
     passed_law : Law
     passed_law = elim (cases_Bool (m.word c.to.number).on) [ inl e ↦ passed_on_law e | inr e ↦ passed_off_law e ]
 
-  pub send_law : Makes (send_table ((k.place c.caller.number).serial + 1)) (begun m (send_of c own)) k (call_of k c.caller (phase_by c c.manner))
+  pub send_law : Makes (send_kind ((k.place c.caller.number).serial + 1)) (begun m (send_of c own)) k (call_of k c.caller (phase_by c c.manner))
   send_law =
       elim (cases_Bool (same_id c.to c.caller)) [
         | inl own ↦ own_law own
@@ -282,13 +274,13 @@ module _ (c : SendCall) (m : Memory) (k : KernelState) (own : StateWord) (h : Sh
       ]
 
 -- A message that passes is left with its receiver.
-pub delivers_law : (c : SendCall) (serial : ℕ) (m : Memory) (own : StateWord) → IsSoundMemory m → IsCaller m c.caller own → IsSendCall c → same_id c.to c.caller ≡ false → is_present_in (m.word c.to.number) c.to ≡ true → takes_from (shows (m.word c.to.number).state) c.caller c.zero ≡ true → Delivers c (send_table serial) (begun m (send_of c own))
+pub delivers_law : (c : SendCall) (serial : ℕ) (m : Memory) (own : StateWord) → IsSoundMemory m → IsCaller m c.caller own → IsSendCall c → same_id c.to c.caller ≡ false → is_present_in (m.word c.to.number) c.to ≡ true → takes_from (shows (m.word c.to.number).state) c.caller c.zero ≡ true → Delivers c (send_kind serial) (begun m (send_of c own))
 delivers_law c serial m own good call parts other here takes =
     let ne = apart_numbers m c.caller c.to (caller_present m c.caller own call) (sym (present_same m c.to) ∙ here) (same_turned c.caller c.to ∙ other) in
     let alive = not-true (is_dead (shows (m.word c.to.number).state)) (and_parts _ _ (sym (present_same m c.to) ∙ here)).1 in
     let w = on_with (m.word c.to.number) (state.Run (result4.Delivered c.caller)) in
     let is = upd_same (upd m.word c.caller.number (on_with own (state_after c.manner c.to))) c.to.number w in
-    let mail = upd_same m.mail c.to.number (message_bits c.message) in
+    let mail = upd_same m.mail c.to.number c.message in
     elim (cases_Bool (m.word c.to.number).on) [
       | inl was ↦ let g = runs_passed_on c serial m own good call other ne (rw (here, takes) refl) (rw (here, takes) refl) parts alive was in
           record { steps = g.steps; final = _; runs = g.runs; able = g.able; went = refl; mail = mail; word = ap (λ (x : StateWord). x.state) is; on = ap (λ (x : StateWord). x.on) is }

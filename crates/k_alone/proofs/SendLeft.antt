@@ -17,7 +17,6 @@ use Rattle.k_ids.specs.declared.state_word.Result4.TheVariants as result4
 use Rattle.k_ids.specs.declared.state_word.State.{State}
 use Rattle.k_ids.specs.declared.state_word.State.TheVariants as state
 use Rattle.k_ids.specs.declared.state_word.StateWord.{StateWord}
-use Rattle.k_ids.specs.Messages.{message_bits}
 use Rattle.k_senders.specs.declared.entries.SenderEntry.{SenderEntry}
 use Rattle.k_senders.specs.Queue.{Queue}
 use Rattle.k_locks.specs.Shown.{shows}
@@ -99,7 +98,7 @@ module _ (m : Memory) (me : ThreadId) (own : StateWord) (serial : ℕ) (phase : 
 
   module _ (a : Manner) (zero : Bool) (takes : takes_from (shows (m.word to.number).state) me zero ≡ true) where
     abbrev left : Memory
-    left = passing m me own (state_after a to) to (message_bits message)
+    left = passing m me own (state_after a to) to message
 
     woken_word : left.word to.number ≡ on_with (m.word to.number) (state.Run (result4.Delivered me))
     woken_word = upd_same (upd m.word me.number (on_with own (state_after a to))) to.number (on_with (m.word to.number) (state.Run (result4.Delivered me)))
@@ -114,13 +113,13 @@ module _ (m : Memory) (me : ThreadId) (own : StateWord) (serial : ℕ) (phase : 
         (λ x. woken_turns m me to.number (state.Run (result4.Delivered me)) n refl (takes_not (shows (m.word to.number).state) me zero takes) x)
         (λ _. upd_cases (Turns m me n) m.word me.number (on_with own s) n (λ x. caller_turns m me own s n call.word call.on x) (λ _. inl refl))
 
-    mail_is : left.mail to.number ≡ message_bits message
-    mail_is = upd_same m.mail to.number (message_bits message)
+    mail_is : left.mail to.number ≡ message
+    mail_is = upd_same m.mail to.number message
 
     mails : (n : ℕ) → list_any (λ line. eqb line.id.number n && not (same_id line.id me)) (replies a) ≡ false → left.mail n ≡ m.mail n
     mails n none =
         let first : (eqb to.number n && not (same_id to me)) ≡ false = (or_parts _ _ none).0 in
-        upd_other m.mail to.number (message_bits message) n (λ x. false≢true (sym first ∙ rw (eq-eqb to.number n (sym x), other) refl))
+        upd_other m.mail to.number message n (λ x. false≢true (sym first ∙ rw (eq-eqb to.number n (sym x), other) refl))
 
     -- the receiver was on
     pub passed_on_left : (m.word to.number).on ≡ true → SameThreads m left → Leaves passed_event outcome.Passed (replies a) m left

@@ -28,4 +28,3 @@ module _ {E : Type 0} (number : E → ℕ) where
   few k [] o h = omega arith
   few zero (f ∷ es) o h = absurd (let l : number f < 0 = h (number f) (grind arith) in omega arith)
   few (suc k) es o h = few_more k es o h (few k)
-

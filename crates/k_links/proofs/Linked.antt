@@ -1,16 +1,16 @@
 -- The rows after one more entry, and after an entry is taken out.
-use Rattle.std.proofs.Common.{Bool, ◌≤◌, ◌≡◌, ◌≢◌, ◌<◌, ◌+◌, ◌-◌, ℕ, true, false, List, [], ◌∷◌, ◌++◌, Option, Some, None, length, get_or, replicate, take, drop, arith, refl, sym, ◌∙◌, ap, subst, inl, inr, zero, suc, ◌⊎◌}
+use Rattle.std.proofs.Common.{◌≤◌, ◌≡◌, ◌≢◌, ◌<◌, ◌+◌, ◌-◌, ℕ, true, false, List, [], ◌∷◌, ◌++◌, Option, Some, None, length, get_or, take, drop, arith, refl, sym, ◌∙◌, ap, subst, inl, inr, zero, suc}
 use Rattle.std.specs.Prelude.{◌==◌, if◌then◌else◌}
 use Rattle.std.proofs.lemmas.Grind.{common_steps}
-use Rattle.std.proofs.lemmas.List.{get_or_past, get_or_default, get_or-replicate, length-replicate}
-use Rattle.std.proofs.lemmas.Bool.{cases_eq, cases_lt}
+use Rattle.std.proofs.lemmas.List.{get_or_past, get_or_default}
+use Rattle.std.proofs.lemmas.Bool.{cases_lt}
 use Rattle.std.proofs.Math.Seq.{take-append_seam}
 use Rattle.k_links.specs.declared.rows.Row.{Row}
 use Rattle.k_links.specs.Listed.{IsOnceEach, entry_of, first_number, number_after, number_before, stands, without}
-use Rattle.k_links.specs.Links.{IsBelow, IsLinked, empty_row, end_of, last_after, last_number, leads_to, row_at, row_of, walked, with_next, with_prior}
+use Rattle.k_links.specs.Links.{IsBelow, IsLinked, empty_row, end_of, last_after, last_number, leads_to, row_at, row_of, with_next, with_prior}
 use Rattle.k_links.proofs.Appended.{after_append, before_append, entry_append, first_append, last_append, last_stands, nothing_after, once_append}
 use Rattle.k_links.proofs.Counted.{few}
-use Rattle.k_links.proofs.Removed.{after_without, before_stands, before_without, entry_without, first_without, last_without, length_without, stands_without, next_stands, not_after, not_before_first, once_without}
+use Rattle.k_links.proofs.Removed.{after_without, before_stands, before_without, entry_without, first_without, last_without, length_without, next_stands, not_after, not_before_first, once_without}
 
 -- A slice that was lent, given back.
 pub given_back : {A : Type 0} (len : ℕ) (xs ys : List A) → length xs ≡ len → take len (xs ++ drop (length xs) ys) ≡ xs

@@ -3,7 +3,7 @@ ghost use Rattle.std.specs.Prelude.{◌≡◌, ℕ};
 
 use k_ids::ThreadId;
 
-/// What can stand in a list of linked rows: it has a number, 0 to 255.
+/// What can stand in a list of linked rows: it has a number, which is below the number of rows.
 pub trait Numbered: Copy {
     ghost number: { Self → ℕ };
 

@@ -5,7 +5,7 @@ ghost use Rattle.std.specs.Prelude.{None, Some, if◌then◌else◌, length, ℕ
 use crate::numbered::Numbered;
 
 /// What a list has at one number. All three are `None` where no entry has the number.
-#[derive(Clone, Copy)]
+#[derive(Clone, Copy, Debug, PartialEq, Eq)]
 pub struct Row<E> {
     /// The entry of this number.
     pub entry: Option<E>,

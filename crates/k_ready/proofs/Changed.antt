@@ -1,6 +1,6 @@
 -- All lists as a map from priorities: a change of one list is a change of one value.
-use Rattle.std.proofs.Common.{◌≡◌, ◌<◌, ℕ, Bool, true, false, Option, List, Some, drop, length, get_or-set_same, get_or-set_other, arith, sym, ◌∙◌, ap, inl, inr}
-use Rattle.std.specs.Prelude.{◌==◌, if◌then◌else◌, [], slice_set}
+use Rattle.std.proofs.Common.{◌≡◌, ◌<◌, ℕ, true, false, Option, List, Some, drop, length, get_or-set_same, get_or-set_other, arith, ◌∙◌, ap, inl, inr}
+use Rattle.std.specs.Prelude.{◌==◌, [], slice_set}
 use Rattle.std.proofs.lemmas.Bool.{cases_eq}
 use Rattle.k_ids.specs.declared.threads.ThreadId.{ThreadId}
 use Rattle.k_model.specs.Maps.{upd}

@@ -121,16 +121,6 @@ bit_empty lists places mask k p l e = mask_empty (list_of lists p) (sym (k.maske
 pub none_empty : (lists : List (List ThreadId)) (places : List (Option ℕ)) (mask : ℕ) → IsKept lists places mask → mask ≡ 0 → (p : ℕ) → p < 64 → list_of lists p ≡ []
 none_empty lists places mask k e p l = bit_empty lists places mask k p l (ap (λ (m : ℕ). bit_at m p) e ∙ bit_at-zero p)
 
--- nothing stands anywhere at first
-pub kept_empty : (lists : List (List ThreadId)) (places : List (Option ℕ)) → length lists ≡ 64 → length places ≡ 64 → ((p : ℕ) → list_of lists p ≡ []) → ((n : ℕ) → place_of places n ≡ None) → IsKept lists places 0
-kept_empty lists places a b h u = record {
-  size = a;
-  numbers = b;
-  placed = λ n p s. absurd (let e = ap (stands n) (h p) in cc);
-  standing = λ n p s. absurd (let e = u n in cc);
-  masked = λ p l. bit_at-zero p ∙ sym (ap mask_bit (h p));
-}
-
 elsewhere : (lists : List (List ThreadId)) (places : List (Option ℕ)) (mask n p : ℕ) → IsKept lists places mask → stands n (list_of lists p) ≡ true → (q : ℕ) → q ≢ p → stands n (list_of lists q) ≡ false
 elsewhere lists places mask n p k s q ne = grind (arith, common_steps, k.placed n p, k.placed n q)
 

@@ -1,5 +1,5 @@
 -- The highest thread as a function is the first of the highest list that isn't empty.
-use Rattle.std.proofs.Common.{◌≡◌, ◌≢◌, ◌<◌, ◌≤◌, ℕ, zero, suc, Option, Some, None, List, [], ◌∷◌, length, arith, refl, sym, ◌∙◌, ap, subst, inl, inr}
+use Rattle.std.proofs.Common.{◌≡◌, ◌<◌, ◌≤◌, ℕ, zero, suc, Option, Some, None, List, [], ◌∷◌, length, arith, refl, ◌∙◌, ap, subst, inl, inr}
 use Rattle.std.specs.Prelude.{◌↔◌}
 use Rattle.std.proofs.lemmas.Bool.{cases_eq, cases_lt}
 use Rattle.std.proofs.lemmas.List.{get_or_past}
@@ -23,7 +23,6 @@ highest_from (suc n) lists id p below above first = elim (cases_eq p n) [
   | inr ne ↦ none_first (list_of lists n) n (highest_below n lists) (above n (omega (arith, below, ne)) (omega arith)) ∙ highest_from n lists id p (omega (arith, below, ne)) (λ q a b. above q a (omega (arith, b))) first
 ]
 
-
 pub none_from : (n : ℕ) (lists : List (List ThreadId)) → ((q : ℕ) → q < n → list_of lists q ≡ []) → highest_below n lists ≡ None
 unfolding highest_below
 none_from zero lists empty = refl
@@ -36,11 +35,14 @@ IsFound n lists l = (l.priority < n) × (first_of (list_of lists l.priority) ≡
 found_one : (n : ℕ) (lists : List (List ThreadId)) (l : Level) (es : List ThreadId) → list_of lists n ≡ es → first_or es n (highest_below n lists) ≡ Some l → (highest_below n lists ≡ Some l → IsFound n lists l) → IsFound (suc n) lists l
 unfolding IsFound
 found_one n lists l [] empty e rec =
-    let h = rec e in
-    (omega (arith, h.0), h.1, λ q a b. elim (cases_lt q n) [
-      | inl i ↦ h.2 q a i
-      | inr past ↦ let same : q ≡ n = omega arith in ap (list_of lists) same ∙ empty
-    ])
+    let h = rec e in (
+      omega (arith, h.0),
+      h.1,
+      λ q a b. elim (cases_lt q n) [
+        | inl i ↦ h.2 q a i
+        | inr past ↦ let same : q ≡ n = omega arith in ap (list_of lists) same ∙ empty
+      ],
+    )
 found_one n lists l (f ∷ es) full e rec =
     let same : record { id = f; priority = n } ≡ l = cc in
     subst (λ (k : Level). (k.priority < suc n) × (first_of (list_of lists k.priority) ≡ Some k.id) × ((q : ℕ) → k.priority < q → q < suc n → list_of lists q ≡ [])) same
@@ -62,7 +64,7 @@ highest_first r l size = (
     above = λ p a. elim (cases_lt p 64) [ inl i ↦ h.2 p a i | inr past ↦ past_all r.lists p size past ];
     first = h.1;
   },
-  λ h. highest_from 64 r.lists l.id l.priority h.inside (λ q a b. h.above q a) h.first
+  λ h. highest_from 64 r.lists l.id l.priority h.inside (λ q a b. h.above q a) h.first,
 )
 
 nothing_one : (n : ℕ) (lists : List (List ThreadId)) (es : List ThreadId) → list_of lists n ≡ es → first_or es n (highest_below n lists) ≡ None → (q : ℕ) → q < suc n → (highest_below n lists ≡ None → q < n → list_of lists q ≡ []) → list_of lists q ≡ []
@@ -80,5 +82,5 @@ nothing_below (suc n) lists e q l = nothing_one n lists (list_of lists n) refl e
 pub highest_none : (r : Ready) → length r.lists ≡ 64 → (highest r ≡ None) ↔ ((priority : ℕ) → list_of r.lists priority ≡ [])
 highest_none r size = (
   λ e p. elim (cases_lt p 64) [ inl i ↦ nothing_below 64 r.lists e p i | inr past ↦ past_all r.lists p size past ],
-  λ h. none_from 64 r.lists (λ q l. h q)
+  λ h. none_from 64 r.lists (λ q l. h q),
 )

@@ -1,4 +1,5 @@
-// What the lists say of their highest thread, and after a change. Each law is a function that does nothing, whose contract is the law.
+// What the lists say of their highest thread, and after a change. Each law is a function that does nothing, whose contract is
+// the law.
 ghost use Rattle.std.specs.Prelude.{Some, None, List, [], ◌∷◌, drop, length, ℕ, ◌≡◌, ◌↔◌, ◌<◌};
 ghost use Rattle.k_ids.specs.declared.threads.ThreadId.{ThreadId};
 ghost use Rattle.k_model.specs.Maps.{upd};

@@ -1,5 +1,5 @@
 -- A queue of senders: what its list says of a thread, and what is left when an entry is taken out.
-use Rattle.std.specs.Prelude.{◌≡◌, ℕ, Bool, false, ◌==◌, ◌||◌, if◌then◌else◌, Option, List, [], ◌∷◌}
+use Rattle.std.specs.Prelude.{ℕ, Bool, false, ◌==◌, ◌||◌, if◌then◌else◌, Option, List, [], ◌∷◌}
 use Rattle.k_links.specs.declared.rows.Row.{Row}
 use Rattle.k_links.specs.Links as links
 use Rattle.k_links.specs.Listed as listed

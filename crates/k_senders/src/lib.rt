@@ -26,6 +26,6 @@ mod senders;
 #[cfg(test)]
 mod tests;
 
-pub use entries::{SenderEntry, thread_of, who_of};
+pub use entries::{SenderEntry, who_of};
 pub use laws::an_entry_is_a_sender_and_a_message;
 pub use senders::Senders;

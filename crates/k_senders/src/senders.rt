@@ -2,7 +2,8 @@
 ghost use Rattle.k_links.specs.Links.{row_at};
 ghost use Rattle.k_senders.specs.Entries.{number_of};
 ghost use Rattle.k_senders.specs.Places.{IsKnown, IsNumberAt, is_of};
-ghost use Rattle.k_senders.specs.Queue.{IsOnceEach, entry_of, first_number, number_after, row_of, sends, stands, without, without_thread};
+ghost use Rattle.k_senders.specs.Queue.{IsOnceEach, entry_of, first_number, number_after, row_of, stands, without};
+ghost use Rattle.k_senders.specs.Queue.{sends, without_thread};
 ghost use Rattle.std.specs.Prelude.{IfOk, Some, false, length, remove, slice_get, true, ℕ, [], ◌∷◌, ◌++◌, ◌<◌, ◌≡◌, ◌≤◌};
 
 use crate::entries::{SenderEntry, thread_of};

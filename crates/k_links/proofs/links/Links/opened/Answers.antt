@@ -7,7 +7,7 @@ use Rattle.k_links.proofs.links.Links.opened.Goals as goal
 pub loop-preserved : goal.loop-preserved
 loop-preserved g c = (
   λ n. rw (c.in_ok-push.ensures.items, c.empty_row.ensures) (row_added c.loop.rows.items n c.loop.invariant.0),
-  rw (c.in_ok-push.ensures.items, length-append) (ap (λ (k : ℕ). k + 1) c.loop.invariant.1)
+  rw (c.in_ok-push.ensures.items, length-append) (ap (λ (k : ℕ). k + 1) c.loop.invariant.1),
 )
 
 pub invariant_of-result : goal.invariant_of-result

@@ -1,4 +1,4 @@
-use Rattle.std.proofs.Common.{arith, rules, ◌≡◌, ◌≤◌, ◌++◌, ◌∷◌, [], ◌+◌, Some, List, length, take, drop}
+use Rattle.std.proofs.Common.{arith, rules, ◌≡◌, ◌++◌, ◌∷◌, [], ◌+◌, Some, List, length, take, drop}
 use Rattle.k_links.specs.declared.rows.Row.{Row}
 use Rattle.k_links.specs.Links.{IsLinked}
 use Rattle.k_links.proofs.Linked.{given_back, linked_few, linked_push, tail_below}

@@ -2,7 +2,7 @@ use Rattle.std.proofs.Common.{rules, None, Some, ◌∷◌, ap, sym, true, lengt
 use Rattle.std.specs.Int.{bit_at}
 use Rattle.k_ids.specs.declared.threads.ThreadId.{ThreadId}
 use Rattle.k_ready.specs.Lists.{first_of, list_of, stands}
-use Rattle.k_ready.specs.Popped.{highest, popped}
+use Rattle.k_ready.specs.Popped.{highest}
 use Rattle.k_ready.specs.Kept.{IsKept}
 use Rattle.k_ready.proofs.Kept.{bit_empty, changed, kept_drop, none_empty, mask_after, mask_standing, placed, read_list}
 use Rattle.k_ready.proofs.Popped.{highest_from, none_from}

@@ -50,6 +50,14 @@ impl Numbers {
         (self.present >> number) & 1 == 1
     }
 
+    /// The version of the thread that has the number, or had it last; 0 where it has had none.
+    pub fn version(&self, number: u8) -> u32
+        requires { number < length self.now.versions }
+        ensures { result ≡ version_at self.now number }
+    {
+        self.versions[usize::from(number)]
+    }
+
     /// The lowest number below `count` that a new thread may get: it has no thread, and its version isn't the last. `None`
     /// exactly where there is none.
     pub fn lowest_free(&self) -> Option<u8>

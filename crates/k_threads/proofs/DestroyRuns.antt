@@ -1,74 +1,119 @@
--- The locks and the steps of a destroy, location by location.
-use Rattle.std.proofs.Common.{◌≡◌, ◌<◌, ◌+◌, ℕ, true, List, [], ◌∷◌, Some, refl, arith}
-use Rattle.std.specs.Prelude.{slice_get}
+-- A destroy: its locks.
+use Rattle.std.proofs.Common.{◌≡◌, ℕ, Bool, true, false, refl, arith}
 use Rattle.std.proofs.lemmas.Grind.{common_steps}
-use Rattle.k_senders.specs.declared.entries.SenderEntry.{SenderEntry}
-use Rattle.k_locks.specs.declared.locks.Lock.{Lock}
-use Rattle.k_locks.specs.declared.locks.Lock.TheVariants as lock
-use Rattle.k_locks.specs.declared.steps.Step.TheVariants as step
-use Rattle.k_locks.specs.declared.steps.Answer.{Answer}
-use Rattle.k_locks.specs.declared.steps.Answer.TheVariants as answer
-use Rattle.k_locks.specs.Locks.{rank_of}
-use Rattle.k_locks.specs.Steps.{suits}
+use Rattle.std.specs.Prelude.{if◌then◌else◌}
+use Rattle.k_ids.specs.declared.state_word.StateWord.{StateWord}
+use Rattle.k_locks.specs.Asks.{Response, suits_response}
+use Rattle.k_locks.specs.Hands.{Hand}
+use Rattle.k_locks.specs.Locks.{IsByRank}
+use Rattle.k_locks.specs.Tables.{IsAbove, IsHeld, IsRising, locks_after}
+use Rattle.k_locks.proofs.Responses.{told_by}
 use Rattle.k_threads.specs.declared.destroy.DestroyCall.{DestroyCall}
-use Rattle.k_threads.specs.Hands.{Hand, only_table, rest, table_and_thread}
-use Rattle.k_threads.specs.Destroy.{DestroyLocation, LoadOwn, AcquireTable, LoadCaller, AcquireVictimLock, LoadVictim, CommitKill, LoadSender, FreeSender, AcquireReadyForSender, PushSender, ReleaseVictimLock, AcquireReadyForVictim, UnlistVictim, RemoveContext, AcquireVisitedLock, LoadVisited, FreeVisited, AcquireReadyForVisited, PushVisited, ReleaseVisitedLock, ReleaseTable, ReleaseVictimLockAbsent, ReleaseTableAbsent, ReleaseTableDead, Ended, free_first, locks_of, next_of, resume_of, visit_from}
-use Rattle.k_locks.specs.Runs.{IsAbove, locks_after}
-use Rattle.k_threads.specs.Runs.{Holds}
-use Rattle.k_threads.proofs.Shapes.{above_held, ranked_none, ranked_table, ranked_thread, ranked_ready, ranked_all}
+use Rattle.k_threads.specs.declared.destroy.DestroyOutside.TheVariants.{LoadOwn, AcquireTable, Ended}
+use Rattle.k_threads.specs.declared.destroy.DestroyLocked.TheVariants.{LoadCaller, AcquireVictimLock, AcquireReadyForVictim, RemoveContext, AcquireVisitedLock, Release}
+use Rattle.k_threads.specs.declared.destroy.DestroyVictim.TheVariants.{LoadVictim, CommitKill, LoadSender, FreeSender, AcquireReadyForSender, ReleaseVictimLock, ReleaseVictimLockAbsent}
+use Rattle.k_threads.specs.declared.destroy.DestroyVisit.TheVariants.{LoadVisited, FreeVisited, AcquireReadyForVisited, ReleaseVisitedLock}
+use Rattle.k_threads.specs.declared.destroy.DestroyPushing.TheVariants.{PushSender, PushVisited}
+use Rattle.k_threads.specs.DestroyTable.{DestroyAt, Locked, Outside, Pushing, UnlistVictim, Victim, Visit, ask_of, destroy_table, leads, locks_of, queue_at, visited_at}
+use Rattle.k_threads.specs.Goods.{table_and_thread}
+use Rattle.k_threads.specs.Words.{is_receiving_from}
+use Rattle.k_threads.proofs.Held.{all_ranked, nothing_held, table_ranked, table_ready_ranked, thread_ranked}
 
--- THE LOCKS
+ranked : (c : DestroyCall) (p : DestroyAt) → IsByRank (locks_of c p)
+ranked c (Outside p) rank l e = absurd (nothing_held rank l e)
+ranked c (Locked p) rank l e = table_ranked rank l e
+ranked c (Victim p) rank l e = thread_ranked c.who.number rank l e
+ranked c (Visit p) rank l e = thread_ranked (visited_at p) rank l e
+ranked c UnlistVictim rank l e = table_ready_ranked rank l e
+ranked c (Pushing p) rank l e = all_ranked (queue_at c p) rank l e
 
--- each lock stands at its rank
-pub ranked : (c : DestroyCall) (l : DestroyLocation) (r : ℕ) (k : Lock) → slice_get (locks_of c l) r ≡ Some (Some k) → rank_of k ≡ r
-ranked c LoadOwn r k h = ranked_none r k h
-ranked c AcquireTable r k h = ranked_none r k h
-ranked c LoadCaller r k h = ranked_table r k h
-ranked c AcquireVictimLock r k h = ranked_table r k h
-ranked c LoadVictim r k h = ranked_thread c.who.number r k h
-ranked c (CommitKill seen) r k h = ranked_thread c.who.number r k h
-ranked c (LoadSender sender) r k h = ranked_thread c.who.number r k h
-ranked c (FreeSender sender seen) r k h = ranked_thread c.who.number r k h
-ranked c (AcquireReadyForSender sender seen) r k h = ranked_thread c.who.number r k h
-ranked c (PushSender sender seen) r k h = ranked_all c.who.number r k h
-ranked c ReleaseVictimLock r k h = ranked_thread c.who.number r k h
-ranked c AcquireReadyForVictim r k h = ranked_table r k h
-ranked c UnlistVictim r k h = ranked_ready r k h
-ranked c RemoveContext r k h = ranked_table r k h
-ranked c (AcquireVisitedLock visited) r k h = ranked_table r k h
-ranked c (LoadVisited visited) r k h = ranked_thread visited r k h
-ranked c (FreeVisited visited seen) r k h = ranked_thread visited r k h
-ranked c (AcquireReadyForVisited visited seen) r k h = ranked_thread visited r k h
-ranked c (PushVisited visited seen) r k h = ranked_all visited r k h
-ranked c (ReleaseVisitedLock visited) r k h = ranked_thread visited r k h
-ranked c ReleaseTable r k h = ranked_table r k h
-ranked c (ReleaseVictimLockAbsent found) r k h = ranked_thread c.who.number r k h
-ranked c (ReleaseTableAbsent found) r k h = ranked_table r k h
-ranked c ReleaseTableDead r k h = ranked_table r k h
-ranked c Ended r k h = ranked_none r k h
+above : (c : DestroyCall) (own : StateWord) (p : DestroyAt) → IsAbove (ask_of c own p) (locks_of c p)
+above c own (Outside LoadOwn) = tt
+above c own (Outside AcquireTable) = λ rank m e. absurd (nothing_held rank m e)
+above c own (Outside (Ended w)) = tt
+above c own (Locked LoadCaller) = tt
+above c own (Locked AcquireVictimLock) = λ rank m e. grind (arith, common_steps)
+above c own (Locked AcquireReadyForVictim) = λ rank m e. grind (arith, common_steps)
+above c own (Locked RemoveContext) = tt
+above c own (Locked (AcquireVisitedLock visited)) = λ rank m e. grind (arith, common_steps)
+above c own (Locked (Release e)) = tt
+above c own (Victim LoadVictim) = tt
+above c own (Victim (CommitKill seen)) = tt
+above c own (Victim (LoadSender sender)) = tt
+above c own (Victim (FreeSender sender seen)) = tt
+above c own (Victim (AcquireReadyForSender sender seen)) = λ rank m e. grind (arith, common_steps)
+above c own (Victim ReleaseVictimLock) = tt
+above c own (Victim (ReleaseVictimLockAbsent found)) = tt
+above c own (Visit (LoadVisited visited)) = tt
+above c own (Visit (FreeVisited visited seen)) = tt
+above c own (Visit (AcquireReadyForVisited visited seen)) = λ rank m e. grind (arith, common_steps)
+above c own (Visit (ReleaseVisitedLock visited)) = tt
+above c own UnlistVictim = tt
+above c own (Pushing (PushSender sender seen)) = tt
+above c own (Pushing (PushVisited visited seen)) = tt
 
--- a lock that is asked for has a higher rank than those held
-rising : (c : DestroyCall) (h : Hand) (l : DestroyLocation) (k held : Lock) → next_of c h l ≡ step.Acquire k → Holds held (locks_of c l) → rank_of held < rank_of k
-rising c h l k lock.Table asks holds = grind arith
-rising c h l k (lock.Thread n) asks holds = grind arith
-rising c h l k lock.Ready asks holds = grind arith
+releasing : (c : DestroyCall) (own : StateWord) (p : DestroyAt) → IsHeld (ask_of c own p) (locks_of c p)
+releasing c own (Outside LoadOwn) = tt
+releasing c own (Outside AcquireTable) = tt
+releasing c own (Outside (Ended w)) = tt
+releasing c own (Locked LoadCaller) = tt
+releasing c own (Locked AcquireVictimLock) = tt
+releasing c own (Locked AcquireReadyForVictim) = tt
+releasing c own (Locked RemoveContext) = tt
+releasing c own (Locked (AcquireVisitedLock visited)) = tt
+releasing c own (Locked (Release e)) = refl
+releasing c own (Victim LoadVictim) = tt
+releasing c own (Victim (CommitKill seen)) = tt
+releasing c own (Victim (LoadSender sender)) = tt
+releasing c own (Victim (FreeSender sender seen)) = tt
+releasing c own (Victim (AcquireReadyForSender sender seen)) = tt
+releasing c own (Victim ReleaseVictimLock) = refl
+releasing c own (Victim (ReleaseVictimLockAbsent found)) = refl
+releasing c own (Visit (LoadVisited visited)) = tt
+releasing c own (Visit (FreeVisited visited seen)) = tt
+releasing c own (Visit (AcquireReadyForVisited visited seen)) = tt
+releasing c own (Visit (ReleaseVisitedLock visited)) = refl
+releasing c own UnlistVictim = refl
+releasing c own (Pushing (PushSender sender seen)) = refl
+releasing c own (Pushing (PushVisited visited seen)) = refl
 
-pub above : (c : DestroyCall) (h : Hand) (l : DestroyLocation) → IsAbove (next_of c h l) (locks_of c l)
-above c h l = above_held (next_of c h l) (locks_of c l) (ranked c l) (rising c h l)
+-- the locks after a step
+abbrev Follows : DestroyCall → StateWord → Hand → DestroyAt → Response → Type 0
+Follows c own h p r = locks_of c (leads c h p r) ≡ locks_after (ask_of c own p) r (locks_of c p)
 
-free_locks : (c : DestroyCall) (es : List SenderEntry) → locks_of c (free_first es) ≡ table_and_thread c.who.number
-free_locks c [] = refl
-free_locks c (e ∷ es) = refl
+-- a visited thread is freed under the lock of its number
+freed_visit : (c : DestroyCall) (visited : ℕ) (seen : StateWord) (b : Bool) → locks_of c (Visit (if b then ReleaseVisitedLock visited else AcquireReadyForVisited visited seen)) ≡ table_and_thread visited
+freed_visit c visited seen true = refl
+freed_visit c visited seen false = refl
 
-visit_locks : (c : DestroyCall) (n : ℕ) → locks_of c (visit_from c n) ≡ only_table
-visit_locks c n = grind (arith, common_steps)
+loaded_visit : (c : DestroyCall) (visited : ℕ) (w : StateWord) (b : Bool) → locks_of c (Visit (if b then FreeVisited visited w else ReleaseVisitedLock visited)) ≡ table_and_thread visited
+loaded_visit c visited w true = refl
+loaded_visit c visited w false = refl
 
--- the locks go with the steps
-pub moves : (c : DestroyCall) (h : Hand) (l : DestroyLocation) (a : Answer) → suits (next_of c h l) a ≡ true → locks_of c (resume_of c h l a) ≡ locks_after (next_of c h l) a (locks_of c l)
-moves c h LoadVictim (answer.Loaded bits) s = grind (arith, common_steps)
-moves c h (CommitKill seen) answer.Won s = free_locks c h.senders.entries
-moves c h (FreeSender sender seen) answer.Won s = grind (arith, common_steps, free_locks)
-moves c h (PushSender sender seen) answer.Released s = free_locks c (rest h.senders.entries)
-moves c h RemoveContext answer.Removed s = visit_locks c 0
-moves c h (ReleaseVisitedLock visited) answer.Released s = visit_locks c (visited + 1)
-moves c h l a s = grind (arith, common_steps)
+held : (c : DestroyCall) (own : StateWord) (h : Hand) (p : DestroyAt) (r : Response) → suits_response (ask_of c own p) r ≡ true → Follows c own h p r
+held c own h (Outside LoadOwn) r s = told_by (ask_of c own (Outside LoadOwn)) r (Follows c own h (Outside LoadOwn)) s (λ v. refl) tt
+held c own h (Outside AcquireTable) r s = told_by (ask_of c own (Outside AcquireTable)) r (Follows c own h (Outside AcquireTable)) s refl (λ owner. refl)
+held c own h (Outside (Ended w)) r s = told_by (ask_of c own (Outside (Ended w))) r (Follows c own h (Outside (Ended w))) s (λ v. refl) tt
+held c own h (Locked LoadCaller) r s = told_by (ask_of c own (Locked LoadCaller)) r (Follows c own h (Locked LoadCaller)) s (λ v. refl) tt
+held c own h (Locked AcquireVictimLock) r s = told_by (ask_of c own (Locked AcquireVictimLock)) r (Follows c own h (Locked AcquireVictimLock)) s refl (λ owner. refl)
+held c own h (Locked AcquireReadyForVictim) r s = told_by (ask_of c own (Locked AcquireReadyForVictim)) r (Follows c own h (Locked AcquireReadyForVictim)) s refl (λ owner. refl)
+held c own h (Locked RemoveContext) r s = told_by (ask_of c own (Locked RemoveContext)) r (Follows c own h (Locked RemoveContext)) s refl refl
+held c own h (Locked (AcquireVisitedLock visited)) r s = told_by (ask_of c own (Locked (AcquireVisitedLock visited))) r (Follows c own h (Locked (AcquireVisitedLock visited))) s refl (λ owner. refl)
+held c own h (Locked (Release e)) r s = told_by (ask_of c own (Locked (Release e))) r (Follows c own h (Locked (Release e))) s refl tt
+held c own h (Victim LoadVictim) r s = told_by (ask_of c own (Victim LoadVictim)) r (Follows c own h (Victim LoadVictim)) s (λ v. refl) tt
+held c own h (Victim (CommitKill seen)) r s = told_by (ask_of c own (Victim (CommitKill seen))) r (Follows c own h (Victim (CommitKill seen))) s (refl, λ v. refl) tt
+held c own h (Victim (LoadSender sender)) r s = told_by (ask_of c own (Victim (LoadSender sender))) r (Follows c own h (Victim (LoadSender sender))) s (λ v. refl) tt
+held c own h (Victim (FreeSender sender seen)) r s = told_by (ask_of c own (Victim (FreeSender sender seen))) r (Follows c own h (Victim (FreeSender sender seen))) s (refl, λ v. refl) tt
+held c own h (Victim (AcquireReadyForSender sender seen)) r s = told_by (ask_of c own (Victim (AcquireReadyForSender sender seen))) r (Follows c own h (Victim (AcquireReadyForSender sender seen))) s refl (λ owner. refl)
+held c own h (Victim ReleaseVictimLock) r s = told_by (ask_of c own (Victim ReleaseVictimLock)) r (Follows c own h (Victim ReleaseVictimLock)) s refl tt
+held c own h (Victim (ReleaseVictimLockAbsent found)) r s = told_by (ask_of c own (Victim (ReleaseVictimLockAbsent found))) r (Follows c own h (Victim (ReleaseVictimLockAbsent found))) s refl tt
+held c own h (Visit (LoadVisited visited)) r s = told_by (ask_of c own (Visit (LoadVisited visited))) r (Follows c own h (Visit (LoadVisited visited))) s (λ v. loaded_visit c visited v (is_receiving_from c.who v.state)) tt
+held c own h (Visit (FreeVisited visited seen)) r s = told_by (ask_of c own (Visit (FreeVisited visited seen))) r (Follows c own h (Visit (FreeVisited visited seen))) s (freed_visit c visited seen seen.on, λ v. refl) tt
+held c own h (Visit (AcquireReadyForVisited visited seen)) r s = told_by (ask_of c own (Visit (AcquireReadyForVisited visited seen))) r (Follows c own h (Visit (AcquireReadyForVisited visited seen))) s refl (λ owner. refl)
+held c own h (Visit (ReleaseVisitedLock visited)) r s = told_by (ask_of c own (Visit (ReleaseVisitedLock visited))) r (Follows c own h (Visit (ReleaseVisitedLock visited))) s refl tt
+held c own h UnlistVictim r s = told_by (ask_of c own UnlistVictim) r (Follows c own h UnlistVictim) s refl tt
+held c own h (Pushing (PushSender sender seen)) r s = told_by (ask_of c own (Pushing (PushSender sender seen))) r (Follows c own h (Pushing (PushSender sender seen))) s refl tt
+held c own h (Pushing (PushVisited visited seen)) r s = told_by (ask_of c own (Pushing (PushVisited visited seen))) r (Follows c own h (Pushing (PushVisited visited seen))) s refl tt
+
+pub rises : (c : DestroyCall) → IsRising (destroy_table c)
+rises c = record { none = refl; ranked = ranked c; rising = above c; releasing = releasing c; held = held c }

@@ -3,7 +3,8 @@ use Rattle.std.proofs.Common.{◌≡◌, ◌<◌, ℕ, refl, true, List, [], ◌
 use Rattle.std.proofs.lemmas.Grind.{common_steps}
 use Rattle.k_senders.specs.declared.entries.SenderEntry.{SenderEntry}
 use Rattle.k_senders.specs.Queue.{first_number, stands, without}
-use Rattle.k_threads.specs.Hands.{rest}
+use Rattle.k_senders.proofs.EntrySpelled.{number_small}
+use Rattle.k_threads.specs.Goods.{rest}
 
 pub first_stands : (n : ℕ) (es : List SenderEntry) → first_number es ≡ Some n → stands n es ≡ true
 first_stands n [] e = absurd cc
@@ -23,4 +24,4 @@ nothing_stands (f ∷ es) e = absurd cc
 
 pub first_inside : (n : ℕ) (es : List SenderEntry) → first_number es ≡ Some n → n < 64
 first_inside n [] e = absurd cc
-first_inside n (f ∷ es) e = grind (arith, common_steps)
+first_inside n (f ∷ es) e = let small = number_small f in grind (arith, common_steps)

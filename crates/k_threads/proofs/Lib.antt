@@ -1,9 +1,9 @@
 mod Entries
 mod Unlisted
-mod Shapes
+mod Held
+mod Steps
+mod CreateLaws
+mod DestroyLaws
 mod CreateRuns
 mod DestroyRuns
 mod DestroyBound
-mod Tested
-mod CreateChain
-mod DestroyChain

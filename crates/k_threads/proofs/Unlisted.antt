@@ -5,7 +5,7 @@ use Rattle.std.proofs.lemmas.Grind.{common_steps}
 use Rattle.std.proofs.lemmas.List.{ext_get_or, get_or-map, length-map}
 use Rattle.k_ids.specs.declared.threads.ThreadId.{ThreadId}
 use Rattle.k_ready.specs.Lists.{Ready, IsRemoved, has_thread, list_of, stands, without}
-use Rattle.k_threads.specs.Hands.{unlisted, without_it}
+use Rattle.k_threads.specs.Goods.{unlisted, without_it}
 
 pub thread_stands : (id : ThreadId) (es : List ThreadId) → has_thread id es ≡ true → stands id.number es ≡ true
 thread_stands id [] h = grind arith

@@ -1,9 +1,5 @@
 pub mod Words
-pub mod Hands
+pub mod Goods
 pub mod Went
-pub mod Create
-pub mod CreateStages
-pub mod Destroy
-pub mod DestroyStages
-pub mod Runs
-pub mod Told
+pub mod CreateTable
+pub mod DestroyTable

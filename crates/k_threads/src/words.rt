@@ -1,12 +1,13 @@
 // State words as a section reads and writes them, and the count of its steps.
 ghost use Rattle.std.specs.Prelude.{◌≡◌, ◌<◌, ◌≤◌, ◌^◌, true};
 ghost use Rattle.k_ids.specs.StateWords.{IsStateWord, state_bits};
+ghost use Rattle.k_locks.specs.declared.steps.Answer.TheVariants as answer;
 ghost use Rattle.k_locks.specs.Threads.{IsThread};
 ghost use Rattle.k_threads.specs.Went.{went_on};
 ghost use Rattle.k_threads.specs.Words.{created_word, dead_word, done_after, freed_word, is_receiving_from};
 
 use k_ids::{Result4, State, StateWord, ThreadId};
-use k_locks::{Answer, Went, is_same, one_more};
+use k_locks::{Answer, Told, Went, is_same, one_more};
 
 /// Whether the thread of this word waits for a message from this one alone.
 pub fn is_receiving_from(who: ThreadId, word: &StateWord) -> bool
@@ -46,10 +47,10 @@ pub fn freed_bits(word: &StateWord) -> u64
 }
 
 /// How a section goes on where its location says nothing else.
-pub fn went_on(answer: &Answer) -> Went
-    ensures { result ≡ went_on answer.now }
+pub fn went_on(told: Told) -> Went
+    ensures { result ≡ went_on (answer.Told told) }
 {
-    if answer.is_again() {
+    if told.is_again() {
         Went::Again
     } else {
         Went::On

@@ -1,5 +1,8 @@
-use Rattle.k_threads.proofs.CreateRuns.{bounded}
+use Rattle.k_threads.proofs.CreateRuns.{in_time, most}
 use Rattle.k_threads.proofs.laws.left_is_the_most_that_a_create_makes.Goals as goal
 
-pub returns : goal.returns
-returns c = bounded
+pub returns-clause-in_time : goal.returns-clause-in_time
+returns-clause-in_time c = in_time
+
+pub returns-clause-most : goal.returns-clause-most
+returns-clause-most c = most

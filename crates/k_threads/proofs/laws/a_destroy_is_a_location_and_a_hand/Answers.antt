@@ -1,0 +1,11 @@
+use Rattle.k_threads.proofs.DestroyLaws.{at_with, hand_kept, with_both}
+use Rattle.k_threads.proofs.laws.a_destroy_is_a_location_and_a_hand.Goals as goal
+
+pub returns-clause-at : goal.returns-clause-at
+returns-clause-at c = at_with
+
+pub returns-clause-hand : goal.returns-clause-hand
+returns-clause-hand c = hand_kept
+
+pub returns-clause-both : goal.returns-clause-both
+returns-clause-both c = with_both

@@ -17,6 +17,7 @@ use Rattle.fiasco_run.specs.declared.due.Due.{Due}
 use Rattle.k_reader.specs.Refused.{script_fault}
 use Rattle.fiasco_run.specs.Scripts.{IsScriptOf, run_fault}
 use Rattle.fiasco_run.specs.Due.{IsDue, exit_of, text_of}
+use Rattle.fiasco_run.specs.Exits.{exit_text}
 
 -- HOW MUCH OF THE SOURCE is taken: nothing where the words ask for no call; all of it where the bytes were read; where they are
 -- too many, up to the first byte that makes it certain, or to the end where none does; and otherwise a front.
@@ -66,6 +67,11 @@ pub record IsServed (asked : Option Call) (result : Exit) (given left : Option (
   pub cause : IsDue asked given read_before read_now what
   pub takes : TakesFor asked what given left
   pub put : IsPut result what held holds put_before put_now
+
+-- No call is served: the text of a status was put, or after a fault a front of it, and nothing of the source was taken.
+pub record IsPutAlone (result status : Exit) (given left held holds : Option (List ℕ)) (before now : ℕ) : Type 0 where
+  pub put : IsPutText result status (exit_text status) held holds before now
+  pub untouched : left ≡ given
 
 -- THE STATUS THAT BYTES CALL FOR
 abbrev pub run_status : Option ScriptFault → Exit

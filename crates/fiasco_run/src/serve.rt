@@ -38,7 +38,7 @@ fn put_report<K: Sink>(end: &RunEnd, sink: &mut K) -> Exit
 }
 
 /// Puts the line of a status.
-fn put_line<K: Sink>(exit: Exit, line: &[u8], sink: &mut K) -> Exit
+pub(crate) fn put_line<K: Sink>(exit: Exit, line: &[u8], sink: &mut K) -> Exit
     ensures put { IsPutText result exit line.now (K.held sink.old) (K.held sink.new) (K.faults sink.old) (K.faults sink.new) }
     ensures later { K.faults sink.old ≤ K.faults sink.new }
 {

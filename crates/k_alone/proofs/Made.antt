@@ -11,7 +11,7 @@ use Rattle.k_ids.specs.declared.histories.ReplyLine.{ReplyLine}
 use Rattle.k_model.specs.State.{KernelState, same_id}
 use Rattle.k_model.specs.Step.{step, outcome_of, is_enabled}
 use Rattle.k_model.specs.History.{IsReplay}
-use Rattle.k_model.specs.Answers.{reply_to}
+use Rattle.k_model.specs.Answered.{reply_to}
 use Rattle.k_model.specs.Sound.{IsSound}
 use Rattle.k_model.proofs.Sound.{acted-sound}
 use Rattle.k_model.proofs.Replays.{step_enabled, replay_listed}

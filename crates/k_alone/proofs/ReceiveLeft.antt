@@ -24,7 +24,7 @@ use Rattle.k_senders.specs.Queue.{Queue}
 use Rattle.k_locks.specs.Shown.{shows}
 use Rattle.k_senders.specs.Entries.{message_of, sender_of}
 use Rattle.k_ipc.specs.Words.{is_joined_to}
-use Rattle.k_model.specs.Answers.{reply_to}
+use Rattle.k_model.specs.Answered.{reply_to}
 use Rattle.k_model.specs.Maps.{upd}
 use Rattle.k_model.specs.State.{is_run, same_id}
 use Rattle.k_model.specs.Step.{status_after}

@@ -26,7 +26,7 @@ use Rattle.k_ipc.specs.SendTable.{send_of, phase_by, passed_end, is_joined, afte
 use Rattle.k_senders.specs.Entries.{entry_for}
 use Rattle.k_model.specs.State.{KernelState, Waiting, answered, is_dead, is_present, is_run, same_id, takes_from, with_status}
 use Rattle.k_model.specs.Step.{called, sent, passed}
-use Rattle.k_model.specs.Answers.{reply_to}
+use Rattle.k_model.specs.Answered.{reply_to}
 use Rattle.k_model.specs.Maps.{upd}
 use Rattle.k_model.proofs.Maps.{upd_same}
 use Rattle.k_model.proofs.Places.{queued_status}

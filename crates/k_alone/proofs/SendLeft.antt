@@ -22,7 +22,7 @@ use Rattle.k_senders.specs.Queue.{Queue}
 use Rattle.k_locks.specs.Shown.{shows}
 use Rattle.k_ipc.specs.declared.send.Manner.{Manner}
 use Rattle.k_ipc.specs.declared.send.Manner.TheVariants as manner
-use Rattle.k_model.specs.Answers.{reply_to}
+use Rattle.k_model.specs.Answered.{reply_to}
 use Rattle.k_model.specs.Maps.{upd}
 use Rattle.k_model.specs.State.{is_run, same_id, takes_from}
 use Rattle.k_model.proofs.Maps.{upd_cases, upd_same, upd_other}

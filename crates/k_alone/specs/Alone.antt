@@ -31,7 +31,7 @@ use Rattle.k_locks.specs.declared.steps.Went.TheVariants as went
 use Rattle.k_locks.specs.Steps.{answer_of, becomes, goods_returned, lock_taken, word_of}
 use Rattle.k_model.specs.State.{KernelState, is_picking}
 use Rattle.k_model.specs.History.{IsReplay}
-use Rattle.k_model.specs.Answers.{is_waiting, reply_to}
+use Rattle.k_model.specs.Answered.{is_waiting, reply_to}
 use Rattle.k_shown.specs.Rows.{called_by}
 use Rattle.k_shown.specs.Memory.{Memory, Shows, with_word, with_mail, with_context, with_numbers, with_queue, with_ready}
 use Rattle.k_shown.specs.Leaves.{Leaves}

@@ -12,7 +12,7 @@ use Rattle.k_ids.specs.declared.histories.Event.{Event}
 use Rattle.k_ids.specs.declared.histories.Entry.{Entry}
 use Rattle.k_model.specs.State.{KernelState}
 use Rattle.k_model.specs.Step.{step, may_act}
-use Rattle.k_model.specs.Answers.{reply_to}
+use Rattle.k_model.specs.Answered.{reply_to}
 use Rattle.k_model.specs.Keeps.{is_settled}
 use Rattle.k_model.proofs.Sound.{run_from}
 use Rattle.k_script.specs.Script.{Script}

@@ -12,7 +12,7 @@ use Rattle.k_ids.specs.declared.histories.Entry.{Entry}
 use Rattle.k_model.specs.State.{KernelState}
 use Rattle.k_model.specs.Step.{step, may_act, acted, called}
 use Rattle.k_model.specs.Sound.{IsSound}
-use Rattle.k_model.specs.Answers.{IsAnswered, IsEarlierCall, reply_to}
+use Rattle.k_model.specs.Answered.{IsAnswered, IsEarlierCall, reply_to}
 use Rattle.k_model.specs.Keeps.{renewed_number}
 use Rattle.k_model.specs.History.{IsReplay, calls_of, call_of, call_in}
 use Rattle.k_model.proofs.Sound.{acted-sound, acts_alive}

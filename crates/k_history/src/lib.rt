@@ -30,6 +30,3 @@ pub use laws::{a_history_has_one_verdict, a_line_spells_one_entry};
 pub use lines::{event_line, read_line};
 pub use reports::{RunParts, report};
 pub use verdict::Verdict;
-
-#[cfg(test)]
-mod tests;

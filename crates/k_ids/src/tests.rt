@@ -72,6 +72,15 @@ fn states_are_read(rt: HostRuntime) {
         StateWord::read(17_179_869_184 * 5),
         Some(StateWord::dead(5))
     );
+    // Dead, but on; a run with a partner; a partner without a version; a bit above all fields.
+    for bits in [
+        8,
+        SERVER + 1 + PARTNER,
+        SERVER + 258,
+        SERVER + (1 << 60) + 1,
+    ] {
+        assert_eq!(rt; StateWord::read(bits), None);
+    }
 }
 
 #[test]
@@ -86,48 +95,6 @@ fn a_server_waits_and_picks(rt: HostRuntime) {
     );
     assert_eq!(rt; waits.woken(Result4::Plain), run);
     assert_eq!(rt; run.ended().bits(), SERVER + 4);
-}
-
-#[test]
-fn a_client_waits_for_the_answer(rt: HostRuntime) {
-    let from = Some(ThreadId {
-        number: 1,
-        version: 1,
-    });
-    let client = StateWord::created(1, 10).with_state(State::Receiving { from });
-    assert_eq!(rt; client.bits(), 180_144_002_274_705_675);
-}
-
-#[test]
-fn no_state_word_is_read(rt: HostRuntime) {
-    let strange = [
-        // Dead, but on; with a priority; with a partner.
-        8,
-        18_014_398_509_481_984,
-        PARTNER,
-        // A run without a version; with a partner; joined; any; delivered by nobody.
-        1,
-        SERVER + 1 + PARTNER,
-        SERVER + 17,
-        SERVER + 33,
-        SERVER + 129,
-        // A sending to nobody; with a result; any. A partner without a version.
-        SERVER + 2,
-        SERVER + 66 + PARTNER,
-        SERVER + 34 + PARTNER,
-        SERVER + 2 + 256,
-        // A receiving from any with a partner; a joined one from a partner.
-        SERVER + 35 + PARTNER,
-        SERVER + 19 + PARTNER,
-        // A picking with a partner; an ended one that is on; a code that there isn't; a bit above all fields.
-        SERVER + 51 + PARTNER,
-        SERVER + 12,
-        SERVER + 5,
-        SERVER + 1 + 1_152_921_504_606_846_976,
-    ];
-    for bits in strange {
-        assert_eq!(rt; StateWord::read(bits), None);
-    }
 }
 
 #[test]

@@ -116,6 +116,3 @@ impl Divider {
         (MOST_SCRIPT + 1).saturating_sub(self.len).max(1)
     }
 }
-
-#[cfg(test)]
-mod tests;

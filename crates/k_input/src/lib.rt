@@ -17,6 +17,3 @@ mod read;
 pub use fault::InputFault;
 pub use parts::divide;
 pub use read::{read_all, read_divided};
-
-#[cfg(test)]
-mod tests;

@@ -27,8 +27,8 @@ pub fn read_all<S: Source>(alloc: Global, source: &mut S) -> Result<Vec<u8>, Inp
     while bytes.len() <= MOST_SCRIPT {
         let room = BUFFER.min(MOST_SCRIPT + 1 - bytes.len());
         match source.take(&mut buffer[..room]) {
-            Err(_) => return Err(InputFault::Source),
             Ok(0) => return Ok(bytes),
+            Err(_) => return Err(InputFault::Source),
             Ok(count) => {
                 if bytes.extend_from_slice(&buffer[..count]).is_err() {
                     return Err(InputFault::NoMemory);
@@ -56,8 +56,8 @@ pub fn read_divided<S: Source>(alloc: Global, source: &mut S) -> Result<Vec<u8>,
     while !divider.is_large() {
         let room = BUFFER.min(divider.room());
         match source.take(&mut buffer[..room]) {
-            Err(_) => return Err(InputFault::Source),
             Ok(0) => return within(bytes),
+            Err(_) => return Err(InputFault::Source),
             Ok(count) => {
                 divider = divider.feed_all(&buffer[..count]);
                 if bytes.extend_from_slice(&buffer[..count]).is_err() {

@@ -6,7 +6,7 @@ use Rattle.k_ids.specs.declared.threads.ThreadId.{ThreadId}
 use Rattle.k_ids.specs.declared.histories.ReplyLine.{ReplyLine}
 use Rattle.k_machine.specs.declared.last_call.LastCall.{LastCall}
 use Rattle.k_machine.specs.Replies.{AreKept, is_call, no_call, noted}
-use Rattle.k_model.specs.Answers.{is_reply_to, reply_to}
+use Rattle.k_model.specs.Answered.{is_reply_to, reply_to}
 use Rattle.k_model.proofs.Answered.{reply_push, others_keep, other_number}
 
 -- The number shown by the line: its last call, with the reply noted.

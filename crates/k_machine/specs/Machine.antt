@@ -9,7 +9,7 @@ use Rattle.k_ids.specs.declared.histories.Event.{Event}
 use Rattle.k_model.specs.State.{KernelState, Place, nowhere}
 use Rattle.k_model.specs.Sound.{IsListed, IsSound}
 use Rattle.k_model.specs.Ranges.{IsRanged}
-use Rattle.k_model.specs.Answers.{IsAnswered}
+use Rattle.k_model.specs.Answered.{IsAnswered}
 
 -- A list of places as a map.
 unfoldable pub seen : List Place → ℕ → Place
@@ -47,9 +47,9 @@ pub record IsReady (t : KernelTable) (room : ℕ) : Type 0 where
 
 -- The numbers that an event names are in the table.
 abbrev pub NamesInside : ℕ → Phase → Type 0
-NamesInside size (phase.Send to message soon joined) = to.number < size
-NamesInside size (phase.Reply to message soon) = to.number < size
-NamesInside size (phase.Receive from soon) = Unit {0}
+NamesInside size (phase.Send to message zero joined) = to.number < size
+NamesInside size (phase.Reply to message zero) = to.number < size
+NamesInside size (phase.Receive from zero) = Unit {0}
 NamesInside size (phase.Create program priority) = Unit {0}
 NamesInside size (phase.Destroy who) = who.number < size
 NamesInside size phase.End = Unit {0}

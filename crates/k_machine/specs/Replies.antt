@@ -4,7 +4,7 @@ use Rattle.std.specs.Option.{option_or}
 use Rattle.k_ids.specs.declared.calls.Reply.{Reply}
 use Rattle.k_ids.specs.declared.histories.ReplyLine.{ReplyLine}
 use Rattle.k_machine.specs.declared.last_call.LastCall.{LastCall}
-use Rattle.k_model.specs.Answers.{reply_to}
+use Rattle.k_model.specs.Answered.{reply_to}
 use Rattle.k_model.specs.State.{Place, nowhere}
 
 -- replies, each number's last call, and for how many more replies there is room

@@ -1,7 +1,7 @@
 // The machine: the table with room for the events to come.
 ghost use Rattle.k_machine.specs.Machine.{IsInTable, seen, state_of};
 ghost use Rattle.k_machine.specs.Replies.{AreLast, no_call};
-ghost use Rattle.k_model.specs.Answers.{IsAnswered, reply_to};
+ghost use Rattle.k_model.specs.Answered.{IsAnswered, reply_to};
 ghost use Rattle.k_model.specs.History.{opened, opening_place, IsFinished, IsLowestActive};
 ghost use Rattle.k_model.specs.State.{found_of};
 ghost use Rattle.k_model.specs.Ranges.{IsRanged};

@@ -1,6 +1,6 @@
 // The replies so far, and beside them each number's last call, whose reply is found without a search.
 ghost use Rattle.k_machine.specs.Replies.{AreKept, AreSameCalls, no_call};
-ghost use Rattle.k_model.specs.Answers.{reply_to};
+ghost use Rattle.k_model.specs.Answered.{reply_to};
 ghost use Rattle.std.specs.List.{All};
 ghost use Rattle.std.specs.Prelude.{None, OnOk, length, set, slice_index_or, vec_capacity, vec_len, ℕ, [], ◌∷◌, ◌++◌, ◌+◌, ◌-◌, ◌<◌, ◌≡◌, ◌≤◌};
 

@@ -1,7 +1,7 @@
 // The calls and the other events: one method for each definition of the specification.
 ghost use Rattle.k_machine.specs.Machine.{ActsInside, NamesInside, state_of};
 ghost use Rattle.k_ids.specs.declared.threads.ThreadId.{ThreadId};
-ghost use Rattle.k_model.specs.Answers.{IsAnswered, reply_to};
+ghost use Rattle.k_model.specs.Answered.{IsAnswered, reply_to};
 ghost use Rattle.k_model.specs.History.{is_active, IsFinished, IsLowestActive};
 ghost use Rattle.k_model.specs.Maps.{lowest};
 ghost use Rattle.k_model.specs.State.{takes_from};

@@ -2,7 +2,7 @@
 ghost use Rattle.k_machine.specs.Machine.{state_of};
 ghost use Rattle.k_ids.specs.declared.threads.ThreadId.{ThreadId};
 ghost use Rattle.k_machine.specs.Replies.{AreLast};
-ghost use Rattle.k_model.specs.Answers.{reply_to};
+ghost use Rattle.k_model.specs.Answered.{reply_to};
 ghost use Rattle.k_model.specs.Maps.{count, lowest};
 ghost use Rattle.k_model.specs.State.{answered, found_of, id_of, is_present, takes_from, waits_for_absent, with_place, with_status};
 ghost use Rattle.k_ids.specs.declared.threads.Status.TheVariants as status;

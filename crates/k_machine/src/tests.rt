@@ -1,4 +1,4 @@
-// Two worked histories, event by event.
+// Two short histories, event by event.
 ghost use Rattle.k_ids.specs.declared.calls.Act.TheVariants as act;
 ghost use Rattle.k_ids.specs.declared.calls.Phase.TheVariants as phase;
 ghost use Rattle.std.specs.Prelude.{false, ◌≡◌};
@@ -41,7 +41,7 @@ fn a_number_is_used_again(rt: HostRuntime) {
         priority: 5,
     };
     let create = Act::Call { phase };
-    let booted = Machine::boot(rt.alloc(), &[0, 0], 2, 3);
+    let booted = Machine::boot(rt.alloc(), &[0, 0], 2, 2);
     let mut machine = booted.expect(&rt, "memory for two threads");
     let killed = machine.step(event(id(0, 1), 1, destroy));
     assert!(rt; killed == Ok(Outcome::Killed));
@@ -51,46 +51,25 @@ fn a_number_is_used_again(rt: HostRuntime) {
         id: id(1, 2),
         status: Status::Run,
     };
-    let absent = machine.step(event(id(0, 1), 3, send(id(1, 1), 1, 1)));
-    assert!(rt; absent == Ok(Outcome::Absent { found }));
     assert!(rt; machine.status(1) == found && machine.serial(1) == 0);
-    assert!(rt; machine.reply(id(0, 1), 3) == Some(Reply::Absent { found }));
     assert!(rt; machine.reply(id(0, 1), 1) == Some(Reply::Killed));
-    assert!(rt; machine.reply(id(1, 2), 0).is_none());
     assert!(rt; machine.idle() == Some(id(0, 1)) && machine.room() == 0);
-}
-
-#[test]
-fn a_sender_outlives_its_partner(rt: HostRuntime) {
-    let phase = Phase::Destroy { who: id(1, 1) };
-    let destroy = Act::Call { phase };
-    let booted = Machine::boot(rt.alloc(), &[0, 0, 0], 3, 3);
-    let mut machine = booted.expect(&rt, "memory for three threads");
-    let waits = machine.step(event(id(0, 1), 1, send(id(1, 1), 5, 6)));
-    assert!(rt; waits == Ok(Outcome::Waits));
-    let message = Message { low: 5, high: 6 };
-    assert!(rt; machine.waiting(1).first() == Some(&(id(0, 1), message)));
-    let again = machine.step(event(id(0, 1), 2, send(id(1, 1), 5, 6)));
-    let found = machine.status(0);
-    assert!(rt; again == Err(Unlawful { found, serial: 1 }));
-    let killed = machine.step(event(id(2, 1), 1, destroy));
-    assert!(rt; killed == Ok(Outcome::Killed));
-    assert!(rt; machine.reply(id(0, 1), 1).is_none());
-    let freed = machine.step(event(id(0, 1), 1, Act::Gone));
-    assert!(rt; freed == Ok(Outcome::Freed));
-    assert!(rt; machine.reply(id(0, 1), 1) == Some(Reply::Gone));
-    assert!(rt; machine.replies().len() == 2 && machine.size() == 3);
 }
 
 // Room is taken where none is left, and what has been made stays.
 #[test]
-fn room_is_taken_one_event_at_a_time(rt: HostRuntime) {
-    let phase = Phase::Destroy { who: id(0, 1) };
-    let booted = Machine::boot(rt.alloc(), &[0], 1, 1);
-    let mut machine = booted.expect(&rt, "memory for a thread");
-    assert!(rt; machine.reserve().is_ok() && machine.room() == 1);
-    let own = machine.step(event(id(0, 1), 1, Act::Call { phase }));
-    assert!(rt; own == Ok(Outcome::Own) && machine.room() == 0);
+fn a_sender_waits(rt: HostRuntime) {
+    let booted = Machine::boot(rt.alloc(), &[0, 0], 2, 1);
+    let mut machine = booted.expect(&rt, "memory for two threads");
+    let call = event(id(0, 1), 1, send(id(1, 1), 5, 6));
+    let waits = machine.step(call);
+    assert!(rt; waits == Ok(Outcome::Waits) && machine.room() == 0);
     machine.reserve().expect(&rt, "memory for an event");
-    assert!(rt; machine.room() == 1 && machine.replies().len() == 1);
+    let message = Message { low: 5, high: 6 };
+    assert!(rt; machine.waiting(1).first() == Some(&(id(0, 1), message)));
+    let found = machine.status(0);
+    let again = machine.step(call);
+    assert!(rt; again == Err(Unlawful { found, serial: 1 }));
+    assert!(rt; machine.room() == 1 && machine.size() == 2);
+    assert!(rt; machine.replies().is_empty());
 }

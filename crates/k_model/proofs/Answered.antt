@@ -25,7 +25,7 @@ use Rattle.k_model.specs.State.{KernelState, Place, with_place, with_status, ans
 use Rattle.k_model.specs.Step.{no_one, entry_at, called, without, sent, status_after, queued, passed, taken, send, receive, received, is_own, match_at, is_free, renewed, created, create, left_everywhere, killed, destroy, made, acted, may_act}
 use Rattle.k_model.specs.Sound.{IsQueued, IsSound}
 use Rattle.k_model.specs.History.{opened, opening_place}
-use Rattle.k_model.specs.Answers.{is_reply_to, reply_to, same_call, is_waiting, IsLastCall, IsEarlierCall, IsOfCall, IsAnswered, AddsReplies}
+use Rattle.k_model.specs.Answered.{is_reply_to, reply_to, same_call, is_waiting, IsLastCall, IsEarlierCall, IsOfCall, IsAnswered, AddsReplies}
 use Rattle.k_model.proofs.Maps.{upd_same, upd_other, upd_cases, lowest-Some}
 use Rattle.k_model.proofs.Lists.{all_weaker, all_push, all_at}
 use Rattle.k_model.proofs.Sound.{kept, free_dead, alive_from, acts_alive, acts_free, run_from, picking_from, called-sound, with_status-sound}
@@ -267,13 +267,13 @@ sent-grown old most k who serial after h g =
 
 -- ONE CALL AFTER ANOTHER
 
-taker_waits : (st : Status) (who : ThreadId) (soon : Bool) → takes_from st who soon ≡ true → is_waiting st ≡ true
-taker_waits status.Dead who soon h = absurd (false≢true h)
-taker_waits status.Run who soon h = absurd (false≢true h)
-taker_waits (status.Sending to) who soon h = refl
-taker_waits (status.Receiving from) who soon h = refl
-taker_waits status.Picking who soon h = refl
-taker_waits status.Ended who soon h = absurd (false≢true h)
+taker_waits : (st : Status) (who : ThreadId) (zero : Bool) → takes_from st who zero ≡ true → is_waiting st ≡ true
+taker_waits status.Dead who zero h = absurd (false≢true h)
+taker_waits status.Run who zero h = absurd (false≢true h)
+taker_waits (status.Sending to) who zero h = refl
+taker_waits (status.Receiving from) who zero h = refl
+taker_waits status.Picking who zero h = refl
+taker_waits status.Ended who zero h = absurd (false≢true h)
 
 absent_waits : (k : KernelState) (st : Status) → waits_for_absent k st ≡ true → is_waiting st ≡ true
 absent_waits k status.Dead h = absurd (false≢true h)
@@ -295,13 +295,13 @@ record IsCalling (k : KernelState) (me : ThreadId) (serial : ℕ) : Type 0 where
 refused-grown : (old k : KernelState) (me : ThreadId) (serial : ℕ) (r : Reply) → IsCalling k me serial → IsGrown old 0 k → IsGrown old 2 (answered k me serial r)
 refused-grown old k me serial r c g = more old (answered k me serial r) 1 2 (omega arith) (answered-grown old 0 k me serial r c.called (ap is_waiting c.run) g)
 
-passed-grown : (old k : KernelState) (me : ThreadId) (serial : ℕ) (to : ThreadId) (message : Message) (soon : Bool) (after : Status) → IsCalling k me serial → is_present k to ≡ true → takes_from (k.place to.number).status me soon ≡ true → IsGrown old 0 k → IsGrown old 2 (passed k me serial to message after)
+passed-grown : (old k : KernelState) (me : ThreadId) (serial : ℕ) (to : ThreadId) (message : Message) (zero : Bool) (after : Status) → IsCalling k me serial → is_present k to ≡ true → takes_from (k.place to.number).status me zero ≡ true → IsGrown old 0 k → IsGrown old 2 (passed k me serial to message after)
 unfolding passed
-passed-grown old k me serial to message soon after c present takes g =
+passed-grown old k me serial to message zero after c present takes g =
     let p = record (k.place to.number) { status = status.Run; joined = false } in
     let woken = with_status k to.number status.Run in
     let awaited = (k.place to.number).serial in
-    let waits = taker_waits (k.place to.number).status me soon takes in
+    let waits = taker_waits (k.place to.number).status me zero takes in
     let theirs = open_of k to g.good (alive_from k to present).0 waits in
     let one = place-grown old 0 k to.number p refl refl (λ w. absurd (false≢true w)) g in
     let two = answered-grown old 0 woken to awaited (reply.Got me message) (open-place k to.number p to awaited refl refl theirs) (ap (λ q. is_waiting q.status) (upd_same k.place to.number p)) one in
@@ -316,13 +316,13 @@ queued-grown old k me serial to message joined c g =
     let one = place-grown old 0 k me.number p refl refl (λ _. open_shown k me serial c.called) g in
     place-grown old 0 m to.number (record (m.place to.number) { waiting = (m.place to.number).waiting ++ (me, message) ∷ [] }) refl refl (λ w. waiting-open m to.number one.good w) one
 
-send-grown : (old k : KernelState) (me : ThreadId) (serial : ℕ) (to : ThreadId) (message : Message) (soon joined : Bool) (after : Status) → IsCalling k me serial → IsGrown old 0 k → IsGrown old 2 (send k me serial to message soon joined after).0
+send-grown : (old k : KernelState) (me : ThreadId) (serial : ℕ) (to : ThreadId) (message : Message) (zero joined : Bool) (after : Status) → IsCalling k me serial → IsGrown old 0 k → IsGrown old 2 (send k me serial to message zero joined after).0
 unfolding send
-send-grown old k me serial to message soon joined after c g =
+send-grown old k me serial to message zero joined after c g =
     cond_both (same_id me to) _ _ (λ (r : KernelState × Outcome). IsGrown old 2 r.0) (λ _. refused-grown old k me serial _ c g)
     (λ _. cond_both (not (is_present k to)) _ _ (λ (r : KernelState × Outcome). IsGrown old 2 r.0) (λ _. refused-grown old k me serial _ c g)
-    (λ here. cond_both (takes_from (k.place to.number).status me soon) _ _ (λ (r : KernelState × Outcome). IsGrown old 2 r.0) (λ takes. passed-grown old k me serial to message soon after c (not-false _ here) takes g)
-    (λ _. cond_both soon _ _ (λ (r : KernelState × Outcome). IsGrown old 2 r.0) (λ _. refused-grown old k me serial _ c g)
+    (λ here. cond_both (takes_from (k.place to.number).status me zero) _ _ (λ (r : KernelState × Outcome). IsGrown old 2 r.0) (λ takes. passed-grown old k me serial to message zero after c (not-false _ here) takes g)
+    (λ _. cond_both zero _ _ (λ (r : KernelState × Outcome). IsGrown old 2 r.0) (λ _. refused-grown old k me serial _ c g)
     (λ _. more old (queued k me to message joined) 0 2 (omega arith) (queued-grown old k me serial to message joined c g)))))
 
 taken-grown : (old k : KernelState) (me : ThreadId) (serial at : ℕ) → IsCalling k me serial → at < length (k.place me.number).waiting → IsSound k → IsGrown old 0 k → IsGrown old 2 (taken k me serial at)
@@ -340,18 +340,18 @@ taken-grown old k me serial at c inside s g =
     sent-grown old 1 (answered m me serial (reply.Got w.0 w.1)) w.0 awaited (status_after (k.place w.0.number).joined me)
     (open-answered m me serial (reply.Got w.0 w.1) w.0 awaited (λ e. run_apart k me.number w.0.number c.run waits (sym e)) (open-place k me.number p w.0 awaited refl refl theirs)) two
 
-received-grown : (old k : KernelState) (me : ThreadId) (serial : ℕ) (from : Option ThreadId) (soon : Bool) (at : Option ℕ) → match_at k me from ≡ at → IsCalling k me serial → IsSound k → IsGrown old 0 k → IsGrown old 2 (received k me serial from soon at).0
+received-grown : (old k : KernelState) (me : ThreadId) (serial : ℕ) (from : Option ThreadId) (zero : Bool) (at : Option ℕ) → match_at k me from ≡ at → IsCalling k me serial → IsSound k → IsGrown old 0 k → IsGrown old 2 (received k me serial from zero at).0
 unfolding received
-received-grown old k me serial from soon (Some at) e c s g = taken-grown old k me serial at c (position-Some _ (k.place me.number).waiting at no_one e).0 s g
+received-grown old k me serial from zero (Some at) e c s g = taken-grown old k me serial at c (position-Some _ (k.place me.number).waiting at no_one e).0 s g
 received-grown old k me serial from true None e c s g = refused-grown old k me serial _ c g
 received-grown old k me serial from false None e c s g =
     more old (with_status k me.number (status.Receiving from)) 0 2 (omega arith)
     (place-grown old 0 k me.number (record (k.place me.number) { status = status.Receiving from; joined = false }) refl refl (λ _. open_shown k me serial c.called) g)
 
-receive-grown : (old k : KernelState) (me : ThreadId) (serial : ℕ) (from : Option ThreadId) (soon : Bool) → IsCalling k me serial → IsSound k → IsGrown old 0 k → IsGrown old 2 (receive k me serial from soon).0
+receive-grown : (old k : KernelState) (me : ThreadId) (serial : ℕ) (from : Option ThreadId) (zero : Bool) → IsCalling k me serial → IsSound k → IsGrown old 0 k → IsGrown old 2 (receive k me serial from zero).0
 unfolding receive
-receive-grown old k me serial from soon c s g =
-    cond_both (is_own from me) _ _ (λ (r : KernelState × Outcome). IsGrown old 2 r.0) (λ _. refused-grown old k me serial _ c g) (λ _. received-grown old k me serial from soon (match_at k me from) refl c s g)
+receive-grown old k me serial from zero c s g =
+    cond_both (is_own from me) _ _ (λ (r : KernelState × Outcome). IsGrown old 2 r.0) (λ _. refused-grown old k me serial _ c g) (λ _. received-grown old k me serial from zero (match_at k me from) refl c s g)
 
 created-grown : (old k : KernelState) (me : ThreadId) (serial : ℕ) (at : Option ℕ) → lowest (λ n. is_free (k.place n)) k.size ≡ at → IsCalling k me serial → IsGrown old 0 k → IsGrown old 2 (created k me serial at).0
 unfolding created
@@ -404,9 +404,9 @@ destroy-grown old k me serial victim c g =
 
 made-grown : (old k : KernelState) (me : ThreadId) (serial : ℕ) (p : Phase) → IsCalling k me serial → IsSound k → IsGrown old 0 k → IsGrown old 2 (made k me serial p).0
 unfolding made create
-made-grown old k me serial (phase.Send to message soon joined) c s g = send-grown old k me serial to message soon joined (status_after joined to) c g
-made-grown old k me serial (phase.Reply to message soon) c s g = send-grown old k me serial to message soon false status.Picking c g
-made-grown old k me serial (phase.Receive from soon) c s g = receive-grown old k me serial from soon c s g
+made-grown old k me serial (phase.Send to message zero joined) c s g = send-grown old k me serial to message zero joined (status_after joined to) c g
+made-grown old k me serial (phase.Reply to message zero) c s g = send-grown old k me serial to message zero false status.Picking c g
+made-grown old k me serial (phase.Receive from zero) c s g = receive-grown old k me serial from zero c s g
 made-grown old k me serial (phase.Create program priority) c s g = created-grown old k me serial (lowest (λ n. is_free (k.place n)) k.size) refl c g
 made-grown old k me serial (phase.Destroy who) c s g = destroy-grown old k me serial who c g
 made-grown old k me serial phase.End c s g =

@@ -20,9 +20,6 @@ use Rattle.k_model.proofs.Maps.{upd_same, upd_other, upd_cases}
 use Rattle.k_model.proofs.Lists.{all_at}
 use Rattle.k_model.proofs.Sound.{kept, run_from, picking_from, called-sound, with_status-sound, acts_alive, acts_free}
 
-keeps_all : (k : KernelState) (t : ℕ) → Keeps k k t
-keeps_all k t = record { version = refl; serial = refl; settled = λ _. refl }
-
 pub then_keeps : (k m n : KernelState) (t : ℕ) → Keeps k m t → Keeps m n t → Keeps k n t
 then_keeps k m n t p q = record {
   version = q.version ∙ p.version;
@@ -53,26 +50,26 @@ sent_keeps k who serial after t free =
     (λ _. then_keeps k (with_status k who.number after) (answered (with_status k who.number after) who serial reply.Sent) t moved (answered_keeps _ who serial reply.Sent t))
     (λ _. moved)
 
-taker_free : (st : Status) (who : ThreadId) (soon : Bool) → takes_from st who soon ≡ true → is_settled st ≡ false
-taker_free status.Dead who soon h = absurd (false≢true h)
-taker_free status.Run who soon h = absurd (false≢true h)
-taker_free (status.Sending to) who soon h = absurd (false≢true h)
-taker_free (status.Receiving from) who soon h = refl
-taker_free status.Picking who soon h = refl
-taker_free status.Ended who soon h = absurd (false≢true h)
+taker_free : (st : Status) (who : ThreadId) (zero : Bool) → takes_from st who zero ≡ true → is_settled st ≡ false
+taker_free status.Dead who zero h = absurd (false≢true h)
+taker_free status.Run who zero h = absurd (false≢true h)
+taker_free (status.Sending to) who zero h = absurd (false≢true h)
+taker_free (status.Receiving from) who zero h = refl
+taker_free status.Picking who zero h = refl
+taker_free status.Ended who zero h = absurd (false≢true h)
 
 module _ (k : KernelState) (me : ThreadId) (serial : ℕ) (run : (k.place me.number).status ≡ status.Run) (t : ℕ) where
   run_free : is_settled (k.place me.number).status ≡ false
   run_free = ap is_settled run
 
-  passed_keeps : (to : ThreadId) (message : Message) (soon : Bool) (after : Status) → takes_from (k.place to.number).status me soon ≡ true → Keeps k (passed k me serial to message after) t
+  passed_keeps : (to : ThreadId) (message : Message) (zero : Bool) (after : Status) → takes_from (k.place to.number).status me zero ≡ true → Keeps k (passed k me serial to message after) t
   unfolding passed
-  passed_keeps to message soon after r =
+  passed_keeps to message zero after r =
       let woken = with_status k to.number status.Run in
       let told = answered woken to (k.place to.number).serial (reply.Got me message) in
       let still : (woken.place me.number).status ≡ status.Run = upd_cases (λ q. q.status ≡ status.Run) k.place to.number (record (k.place to.number) { status = status.Run; joined = false }) me.number (λ _. refl) (λ _. run) in
       then_keeps k told (sent told me serial after) t
-      (then_keeps k woken told t (status_keeps k to.number status.Run t (taker_free (k.place to.number).status me soon r)) (answered_keeps woken to (k.place to.number).serial (reply.Got me message) t))
+      (then_keeps k woken told t (status_keeps k to.number status.Run t (taker_free (k.place to.number).status me zero r)) (answered_keeps woken to (k.place to.number).serial (reply.Got me message) t))
       (sent_keeps told me serial after t (ap is_settled still))
 
   queued_keeps : (to : ThreadId) (message : Message) (joined : Bool) → Keeps k (queued k me to message joined) t
@@ -85,13 +82,13 @@ module _ (k : KernelState) (me : ThreadId) (serial : ℕ) (run : (k.place me.num
       (place_keeps k me.number p t refl refl (λ h. absurd (false≢true (sym run_free ∙ h))))
       (place_keeps m to.number q t refl refl (λ _. refl))
 
-  send_keeps : (to : ThreadId) (message : Message) (soon joined : Bool) (after : Status) → Keeps k (send k me serial to message soon joined after).0 t
+  send_keeps : (to : ThreadId) (message : Message) (zero joined : Bool) (after : Status) → Keeps k (send k me serial to message zero joined after).0 t
   unfolding send
-  send_keeps to message soon joined after =
+  send_keeps to message zero joined after =
       cond_both (same_id me to) _ _ (λ (r : KernelState × Outcome). Keeps k r.0 t) (λ _. answered_keeps k me serial _ t)
       (λ _. cond_both (not (is_present k to)) _ _ (λ (r : KernelState × Outcome). Keeps k r.0 t) (λ _. answered_keeps k me serial _ t)
-      (λ _. cond_both (takes_from (k.place to.number).status me soon) _ _ (λ (r : KernelState × Outcome). Keeps k r.0 t) (λ r. passed_keeps to message soon after r)
-      (λ _. cond_both soon _ _ (λ (r : KernelState × Outcome). Keeps k r.0 t) (λ _. answered_keeps k me serial _ t) (λ _. queued_keeps to message joined))))
+      (λ _. cond_both (takes_from (k.place to.number).status me zero) _ _ (λ (r : KernelState × Outcome). Keeps k r.0 t) (λ r. passed_keeps to message zero after r)
+      (λ _. cond_both zero _ _ (λ (r : KernelState × Outcome). Keeps k r.0 t) (λ _. answered_keeps k me serial _ t) (λ _. queued_keeps to message joined))))
 
   taken_keeps : (at : ℕ) → at < length (k.place me.number).waiting → IsSound k → Keeps k (taken k me serial at) t
   unfolding taken
@@ -107,22 +104,22 @@ module _ (k : KernelState) (me : ThreadId) (serial : ℕ) (run : (k.place me.num
       (then_keeps k m got t (place_keeps k me.number p t refl refl (λ _. refl)) (answered_keeps m me serial (reply.Got w.0 w.1) t))
       (sent_keeps got w.0 (k.place w.0.number).serial after t free)
 
-  received_keeps : (from : Option ThreadId) (soon : Bool) (at : Option ℕ) → match_at k me from ≡ at → IsSound k → Keeps k (received k me serial from soon at).0 t
+  received_keeps : (from : Option ThreadId) (zero : Bool) (at : Option ℕ) → match_at k me from ≡ at → IsSound k → Keeps k (received k me serial from zero at).0 t
   unfolding received
-  received_keeps from soon (Some at) e s = taken_keeps at (position-Some _ (k.place me.number).waiting at no_one e).0 s
+  received_keeps from zero (Some at) e s = taken_keeps at (position-Some _ (k.place me.number).waiting at no_one e).0 s
   received_keeps from true None e s = answered_keeps k me serial _ t
   received_keeps from false None e s = status_keeps k me.number (status.Receiving from) t run_free
 
-  receive_keeps : (from : Option ThreadId) (soon : Bool) → IsSound k → Keeps k (receive k me serial from soon).0 t
+  receive_keeps : (from : Option ThreadId) (zero : Bool) → IsSound k → Keeps k (receive k me serial from zero).0 t
   unfolding receive
-  receive_keeps from soon s =
-      cond_both (is_own from me) _ _ (λ (r : KernelState × Outcome). Keeps k r.0 t) (λ _. answered_keeps k me serial _ t) (λ _. received_keeps from soon (match_at k me from) refl s)
+  receive_keeps from zero s =
+      cond_both (is_own from me) _ _ (λ (r : KernelState × Outcome). Keeps k r.0 t) (λ _. answered_keeps k me serial _ t) (λ _. received_keeps from zero (match_at k me from) refl s)
 
   made_keeps : (p : Phase) → is_message_phase p ≡ true → IsSound k → Keeps k (made k me serial p).0 t
   unfolding made
-  made_keeps (phase.Send to message soon joined) plain s = send_keeps to message soon joined (status_after joined to)
-  made_keeps (phase.Reply to message soon) plain s = send_keeps to message soon false status.Picking
-  made_keeps (phase.Receive from soon) plain s = receive_keeps from soon s
+  made_keeps (phase.Send to message zero joined) plain s = send_keeps to message zero joined (status_after joined to)
+  made_keeps (phase.Reply to message zero) plain s = send_keeps to message zero false status.Picking
+  made_keeps (phase.Receive from zero) plain s = receive_keeps from zero s
   made_keeps (phase.Create program priority) plain s = absurd (false≢true plain)
   made_keeps (phase.Destroy who) plain s = absurd (false≢true plain)
   made_keeps phase.End plain s = status_keeps k me.number status.Ended t run_free

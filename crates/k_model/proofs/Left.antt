@@ -165,9 +165,9 @@ module _ (k : KernelState) (who : ThreadId) (serial : ℕ) where
   -- EVERY EVENT: each number but the caller's, and but that of the new thread.
   pub acted_leaves : (a : Act) (t : ℕ) → may_act k who serial a ≡ true → IsSound k → t ≢ who.number → renewed_number (called k who serial) a ≢ Some t → Leaves k (acted k who serial a).0 t
   unfolding acted made create
-  acted_leaves (act.Call (phase.Send to message soon joined)) t may s ne apart = leaves_from _ _ t (call_keeps_others k who serial (phase.Send to message soon joined) t may refl s ne)
-  acted_leaves (act.Call (phase.Reply to message soon)) t may s ne apart = leaves_from _ _ t (call_keeps_others k who serial (phase.Reply to message soon) t may refl s ne)
-  acted_leaves (act.Call (phase.Receive from soon)) t may s ne apart = leaves_from _ _ t (call_keeps_others k who serial (phase.Receive from soon) t may refl s ne)
+  acted_leaves (act.Call (phase.Send to message zero joined)) t may s ne apart = leaves_from _ _ t (call_keeps_others k who serial (phase.Send to message zero joined) t may refl s ne)
+  acted_leaves (act.Call (phase.Reply to message zero)) t may s ne apart = leaves_from _ _ t (call_keeps_others k who serial (phase.Reply to message zero) t may refl s ne)
+  acted_leaves (act.Call (phase.Receive from zero)) t may s ne apart = leaves_from _ _ t (call_keeps_others k who serial (phase.Receive from zero) t may refl s ne)
   acted_leaves (act.Call (phase.Create program priority)) t may s ne apart =
       let m = called k who serial in
       then_leaves k m _ t (called_leaves k who serial t ne) (created_leaves m who serial (lowest (λ n. is_free (m.place n)) m.size) t apart)
@@ -187,9 +187,9 @@ module _ (k : KernelState) (who : ThreadId) (serial : ℕ) where
 
   pub call_caller : (p : Phase) → may_act k who serial (act.Call p) ≡ true → IsSound k → (((acted k who serial (act.Call p)).0.place who.number).version ≡ (k.place who.number).version) × (((acted k who serial (act.Call p)).0.place who.number).serial ≡ serial)
   unfolding acted made create
-  call_caller (phase.Send to message soon joined) may s = call_keeps_caller k who serial (phase.Send to message soon joined) may refl s
-  call_caller (phase.Reply to message soon) may s = call_keeps_caller k who serial (phase.Reply to message soon) may refl s
-  call_caller (phase.Receive from soon) may s = call_keeps_caller k who serial (phase.Receive from soon) may refl s
+  call_caller (phase.Send to message zero joined) may s = call_keeps_caller k who serial (phase.Send to message zero joined) may refl s
+  call_caller (phase.Reply to message zero) may s = call_keeps_caller k who serial (phase.Reply to message zero) may refl s
+  call_caller (phase.Receive from zero) may s = call_keeps_caller k who serial (phase.Receive from zero) may refl s
   call_caller (phase.Create program priority) may s =
       let m = called k who serial in
       let l = created_leaves m who serial (lowest (λ n. is_free (m.place n)) m.size) who.number (λ e. renewed_other program priority who.number may e refl) in
@@ -201,9 +201,9 @@ module _ (k : KernelState) (who : ThreadId) (serial : ℕ) where
 
   -- The number of a new thread, in every event.
   pub acted_renews : (a : Act) (number : ℕ) → may_act k who serial a ≡ true → renewed_number (called k who serial) a ≡ Some number → IsRenewed k number (acted k who serial a).0
-  acted_renews (act.Call (phase.Send to message soon joined)) number may found = absurd cc
-  acted_renews (act.Call (phase.Reply to message soon)) number may found = absurd cc
-  acted_renews (act.Call (phase.Receive from soon)) number may found = absurd cc
+  acted_renews (act.Call (phase.Send to message zero joined)) number may found = absurd cc
+  acted_renews (act.Call (phase.Reply to message zero)) number may found = absurd cc
+  acted_renews (act.Call (phase.Receive from zero)) number may found = absurd cc
   acted_renews (act.Call (phase.Create program priority)) number may found = create_renews program priority number may found
   acted_renews (act.Call (phase.Destroy victim)) number may found = absurd cc
   acted_renews (act.Call phase.End) number may found = absurd cc

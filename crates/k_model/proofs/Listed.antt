@@ -1,5 +1,5 @@
 -- Who sends to a present thread stands in its list, and every event keeps it so.
-use Rattle.std.proofs.Common.{◌≡◌, ◌≢◌, ℕ, zero, suc, ◌+◌, ◌<◌, ◌≤◌, Bool, true, false, not, ◌||◌, List, [], ◌∷◌, ◌++◌, length, get_or, refl, sym, ap, ◌∙◌, subst, arith, remove, inl, inr, Option, Some, None}
+use Rattle.std.proofs.Common.{◌≡◌, ◌≢◌, ℕ, suc, ◌+◌, ◌<◌, ◌≤◌, Bool, true, false, not, ◌||◌, List, [], ◌∷◌, ◌++◌, length, get_or, refl, sym, ap, ◌∙◌, subst, arith, remove, inl, inr, Option, Some, None}
 use Rattle.std.specs.Prelude.{nat_lt}
 use Rattle.std.specs.List.{filter}
 use Rattle.std.proofs.lemmas.Bool.{cases_eq, and_parts, eqb-true, not-false, eq-eqb, or_cases, false≢true, cond_both}
@@ -39,10 +39,9 @@ same_number : (a b : ThreadId) → same_id a b ≡ true → a.number ≡ b.numbe
 same_number a b h = eqb-true a.number b.number (and_parts _ _ h).0
 
 has_removed : (ws : List Waiting) (i : ℕ) (id : ThreadId) → id.number ≢ (get_or ws i no_one).0.number → has_entry ws id ≡ true → has_entry (remove ws i) id ≡ true
-has_removed [] zero id ne h = absurd (false≢true h)
-has_removed [] (suc i) id ne h = absurd (false≢true h)
-has_removed (w ∷ ws) zero id ne h = elim (or_cases (same_id w.0 id) (has_entry ws id) h) [ inl e ↦ absurd (ne (sym (same_number w.0 id e))) | inr e ↦ e ]
 has_removed (w ∷ ws) (suc i) id ne h = elim (or_cases (same_id w.0 id) (has_entry ws id) h) [ inl e ↦ rw e refl | inr e ↦ or_right _ _ (has_removed ws i id ne e) ]
+has_removed (w ∷ ws) i id ne h = elim (or_cases (same_id w.0 id) (has_entry ws id) h) [ inl e ↦ absurd (ne (sym (same_number w.0 id e))) | inr e ↦ e ]
+has_removed [] i id ne h = absurd (false≢true h)
 
 has_filtered : (who : ThreadId) (ws : List Waiting) (id : ThreadId) → id.number ≢ who.number → has_entry ws id ≡ true → has_entry (filter (λ w. not (same_id w.0 who)) ws) id ≡ true
 has_filtered who [] id ne h = h
@@ -178,21 +177,21 @@ after_rests : (joined : Bool) (partner : ThreadId) → Rests (status_after joine
 after_rests true partner to e = cc
 after_rests false partner to e = cc
 
-pub taker_lives : (st : Status) (who : ThreadId) (soon : Bool) → takes_from st who soon ≡ true → is_dead st ≡ false
-taker_lives status.Dead who soon h = absurd (false≢true h)
-taker_lives status.Run who soon h = refl
-taker_lives (status.Sending to) who soon h = refl
-taker_lives (status.Receiving from) who soon h = refl
-taker_lives status.Picking who soon h = refl
-taker_lives status.Ended who soon h = refl
+pub taker_lives : (st : Status) (who : ThreadId) (zero : Bool) → takes_from st who zero ≡ true → is_dead st ≡ false
+taker_lives status.Dead who zero h = absurd (false≢true h)
+taker_lives status.Run who zero h = refl
+taker_lives (status.Sending to) who zero h = refl
+taker_lives (status.Receiving from) who zero h = refl
+taker_lives status.Picking who zero h = refl
+taker_lives status.Ended who zero h = refl
 
-passed-listed : (k : KernelState) (me : ThreadId) (serial : ℕ) (to : ThreadId) (message : Message) (soon : Bool) (after : Status) → Rests after → (k.place me.number).status ≡ status.Run → takes_from (k.place to.number).status me soon ≡ true → IsListed k → IsListed (passed k me serial to message after)
+passed-listed : (k : KernelState) (me : ThreadId) (serial : ℕ) (to : ThreadId) (message : Message) (zero : Bool) (after : Status) → Rests after → (k.place me.number).status ≡ status.Run → takes_from (k.place to.number).status me zero ≡ true → IsListed k → IsListed (passed k me serial to message after)
 unfolding passed
-passed-listed k me serial to message soon after rests run takes l =
+passed-listed k me serial to message zero after rests run takes l =
     let p = record (k.place to.number) { status = status.Run; joined = false } in
     let woken = with_status k to.number status.Run in
     let told = answered woken to (k.place to.number).serial (reply.Got me message) in
-    let one : IsListed woken = rest-listed k to.number p refl refl (taker_lives (k.place to.number).status me soon takes) run_rests (but k to.number l) in
+    let one : IsListed woken = rest-listed k to.number p refl refl (taker_lives (k.place to.number).status me zero takes) run_rests (but k to.number l) in
     let alive : is_dead (woken.place me.number).status ≡ false = upd_cases (λ q. is_dead q.status ≡ false) k.place to.number p me.number (λ _. refl) (λ _. run_lives (k.place me.number).status run) in
     sent-listed told me serial after rests alive (but told me.number (refused-listed woken to (k.place to.number).serial (reply.Got me message) one))
 
@@ -205,13 +204,13 @@ queued-listed k me to message joined run mine here l =
     (kept (λ q. q.version) k me.number p refl to.number ∙ (alive_from k to here).0)
     (place-listed k me.number p refl refl (run_lives (k.place me.number).status run) (but k me.number l))
 
-send-listed : (k : KernelState) (me : ThreadId) (serial : ℕ) (to : ThreadId) (message : Message) (soon joined : Bool) (after : Status) → Rests after → (k.place me.number).status ≡ status.Run → (k.place me.number).version ≡ me.version → IsListed k → IsListed (send k me serial to message soon joined after).0
+send-listed : (k : KernelState) (me : ThreadId) (serial : ℕ) (to : ThreadId) (message : Message) (zero joined : Bool) (after : Status) → Rests after → (k.place me.number).status ≡ status.Run → (k.place me.number).version ≡ me.version → IsListed k → IsListed (send k me serial to message zero joined after).0
 unfolding send
-send-listed k me serial to message soon joined after rests run mine l =
+send-listed k me serial to message zero joined after rests run mine l =
     cond_both (same_id me to) _ _ (λ (r : KernelState × Outcome). IsListed r.0) (λ _. refused-listed k me serial _ l)
     (λ _. cond_both (not (is_present k to)) _ _ (λ (r : KernelState × Outcome). IsListed r.0) (λ _. refused-listed k me serial _ l)
-    (λ here. cond_both (takes_from (k.place to.number).status me soon) _ _ (λ (r : KernelState × Outcome). IsListed r.0) (λ takes. passed-listed k me serial to message soon after rests run takes l)
-    (λ _. cond_both soon _ _ (λ (r : KernelState × Outcome). IsListed r.0) (λ _. refused-listed k me serial _ l)
+    (λ here. cond_both (takes_from (k.place to.number).status me zero) _ _ (λ (r : KernelState × Outcome). IsListed r.0) (λ takes. passed-listed k me serial to message zero after rests run takes l)
+    (λ _. cond_both zero _ _ (λ (r : KernelState × Outcome). IsListed r.0) (λ _. refused-listed k me serial _ l)
     (λ _. queued-listed k me to message joined run mine (not-false _ here) l))))
 
 taken-listed : (k : KernelState) (me : ThreadId) (serial at : ℕ) → at < length (k.place me.number).waiting → IsSound k → IsListed k → IsListed (taken k me serial at)
@@ -225,17 +224,17 @@ taken-listed k me serial at inside s l =
     sent-listed (answered m me serial (reply.Got w.0 w.1)) w.0 (k.place w.0.number).serial (status_after (k.place w.0.number).joined me)
     (after_rests (k.place w.0.number).joined me) alive (answered-listed m w.0.number me serial (reply.Got w.0 w.1) (without-listed k me.number at l))
 
-received-listed : (k : KernelState) (me : ThreadId) (serial : ℕ) (from : Option ThreadId) (soon : Bool) (at : Option ℕ) → match_at k me from ≡ at → (k.place me.number).status ≡ status.Run → IsSound k → IsListed k → IsListed (received k me serial from soon at).0
+received-listed : (k : KernelState) (me : ThreadId) (serial : ℕ) (from : Option ThreadId) (zero : Bool) (at : Option ℕ) → match_at k me from ≡ at → (k.place me.number).status ≡ status.Run → IsSound k → IsListed k → IsListed (received k me serial from zero at).0
 unfolding received
-received-listed k me serial from soon (Some at) e run s l = taken-listed k me serial at (position-Some _ (k.place me.number).waiting at no_one e).0 s l
+received-listed k me serial from zero (Some at) e run s l = taken-listed k me serial at (position-Some _ (k.place me.number).waiting at no_one e).0 s l
 received-listed k me serial from true None e run s l = refused-listed k me serial _ l
 received-listed k me serial from false None e run s l =
     rest-listed k me.number (record (k.place me.number) { status = status.Receiving from; joined = false }) refl refl (run_lives (k.place me.number).status run) (λ to e. cc) (but k me.number l)
 
-receive-listed : (k : KernelState) (me : ThreadId) (serial : ℕ) (from : Option ThreadId) (soon : Bool) → (k.place me.number).status ≡ status.Run → IsSound k → IsListed k → IsListed (receive k me serial from soon).0
+receive-listed : (k : KernelState) (me : ThreadId) (serial : ℕ) (from : Option ThreadId) (zero : Bool) → (k.place me.number).status ≡ status.Run → IsSound k → IsListed k → IsListed (receive k me serial from zero).0
 unfolding receive
-receive-listed k me serial from soon run s l =
-    cond_both (is_own from me) _ _ (λ (r : KernelState × Outcome). IsListed r.0) (λ _. refused-listed k me serial _ l) (λ _. received-listed k me serial from soon (match_at k me from) refl run s l)
+receive-listed k me serial from zero run s l =
+    cond_both (is_own from me) _ _ (λ (r : KernelState × Outcome). IsListed r.0) (λ _. refused-listed k me serial _ l) (λ _. received-listed k me serial from zero (match_at k me from) refl run s l)
 
 -- A new thread: nobody sends to it yet, since its version is new.
 renewed-listed : (k : KernelState) (n : ℕ) → IsListed k → IsListed (renewed k n)
@@ -300,9 +299,9 @@ destroy-listed k me serial victim l =
 
 made-listed : (k : KernelState) (me : ThreadId) (serial : ℕ) (p : Phase) → (k.place me.number).status ≡ status.Run → (k.place me.number).version ≡ me.version → IsSound k → IsListed k → IsListed (made k me serial p).0
 unfolding made create
-made-listed k me serial (phase.Send to message soon joined) run mine s l = send-listed k me serial to message soon joined (status_after joined to) (after_rests joined to) run mine l
-made-listed k me serial (phase.Reply to message soon) run mine s l = send-listed k me serial to message soon false status.Picking (λ to e. cc) run mine l
-made-listed k me serial (phase.Receive from soon) run mine s l = receive-listed k me serial from soon run s l
+made-listed k me serial (phase.Send to message zero joined) run mine s l = send-listed k me serial to message zero joined (status_after joined to) (after_rests joined to) run mine l
+made-listed k me serial (phase.Reply to message zero) run mine s l = send-listed k me serial to message zero false status.Picking (λ to e. cc) run mine l
+made-listed k me serial (phase.Receive from zero) run mine s l = receive-listed k me serial from zero run s l
 made-listed k me serial (phase.Create program priority) run mine s l = created-listed k me serial (lowest (λ n. is_free (k.place n)) k.size) l
 made-listed k me serial (phase.Destroy who) run mine s l = destroy-listed k me serial who l
 made-listed k me serial phase.End run mine s l =

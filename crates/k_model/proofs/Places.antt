@@ -1,5 +1,5 @@
 -- What a step leaves of each field at each number: for a side that compares states number by number.
-use Rattle.std.proofs.Common.{◌≡◌, ◌≢◌, ℕ, Bool, true, false, not, List, [], ◌∷◌, ◌++◌, refl, ap, ◌∙◌, Option, Some, None, arith, position, leb, length, get_or}
+use Rattle.std.proofs.Common.{◌≡◌, ◌≢◌, ℕ, Bool, true, false, not, List, [], ◌∷◌, refl, ap, ◌∙◌, Option, Some, None, arith, position, leb, length, get_or}
 use Rattle.std.proofs.lemmas.Bool.Decides.{nat_tests}
 use Rattle.std.specs.List.{filter}
 use Rattle.k_ids.specs.declared.threads.ThreadId.{ThreadId}
@@ -14,25 +14,9 @@ use Rattle.k_model.proofs.Maps.{upd_tells}
 use Rattle.k_model.proofs.Sound.{kept}
 
 module _ (k : KernelState) (me to : ThreadId) (message : Message) (joined : Bool) (t : ℕ) (other : me.number ≢ to.number) where
-  pub queued_version : ((queued k me to message joined).place t).version ≡ (k.place t).version
-  unfolding queued
-  queued_version = grind (arith, upd_tells)
-
-  pub queued_serial : ((queued k me to message joined).place t).serial ≡ (k.place t).serial
-  unfolding queued
-  queued_serial = grind (arith, upd_tells)
-
   pub queued_status : ((queued k me to message joined).place t).status ≡ upd (λ u. (k.place u).status) me.number (status.Sending to) t
   unfolding queued
   queued_status = grind (arith, upd_tells)
-
-  pub queued_joined : ((queued k me to message joined).place t).joined ≡ upd (λ u. (k.place u).joined) me.number joined t
-  unfolding queued
-  queued_joined = grind (arith, upd_tells)
-
-  pub queued_waiting : ((queued k me to message joined).place t).waiting ≡ upd (λ u. (k.place u).waiting) to.number ((k.place to.number).waiting ++ (me, message) ∷ []) t
-  unfolding queued
-  queued_waiting = grind (arith, upd_tells)
 
 module _ (k : KernelState) (who : ThreadId) (t : ℕ) where
   pub killed_version : ((killed k who).place t).version ≡ (k.place t).version

@@ -99,14 +99,14 @@ sent-ranged k who serial after known alive r =
 -- ONE CALL AFTER ANOTHER, of a known caller that is alive
 
 module _ (k : KernelState) (me : ThreadId) (serial : ℕ) (mine : IsKnown k me) (run : is_dead (k.place me.number).status ≡ false) (s : IsSound k) (r : IsRanged k) where
-  passed-ranged : (to : ThreadId) (message : Message) (soon : Bool) (after : Status) → is_present k to ≡ true → takes_from (k.place to.number).status me soon ≡ true → IsRanged (passed k me serial to message after)
+  passed-ranged : (to : ThreadId) (message : Message) (zero : Bool) (after : Status) → is_present k to ≡ true → takes_from (k.place to.number).status me zero ≡ true → IsRanged (passed k me serial to message after)
   unfolding passed
-  passed-ranged to message soon after here takes =
+  passed-ranged to message zero after here takes =
       let p = record (k.place to.number) { status = status.Run; joined = false } in
       let woken = with_status k to.number status.Run in
       let awaited = (k.place to.number).serial in
       let told = answered woken to awaited (reply.Got me message) in
-      let lives = taker_lives (k.place to.number).status me soon takes in
+      let lives = taker_lives (k.place to.number).status me zero takes in
       let theirs = known_if k to (alive_from k to here).0 lives s r in
       let one = same-ranged k to.number p refl (λ _. lives) r in
       let known = known-place k to.number p me (omega arith) mine in
@@ -121,13 +121,13 @@ module _ (k : KernelState) (me : ThreadId) (serial : ℕ) (mine : IsKnown k me) 
       let m = with_place k me.number p in
       same-ranged m to.number (record (m.place to.number) { waiting = (m.place to.number).waiting ++ (me, message) ∷ [] }) refl (λ h. h) (same-ranged k me.number p refl (λ _. run) r)
 
-  send-ranged : (to : ThreadId) (message : Message) (soon joined : Bool) (after : Status) → IsRanged (send k me serial to message soon joined after).0
+  send-ranged : (to : ThreadId) (message : Message) (zero joined : Bool) (after : Status) → IsRanged (send k me serial to message zero joined after).0
   unfolding send
-  send-ranged to message soon joined after =
+  send-ranged to message zero joined after =
       cond_both (same_id me to) _ _ (λ (x : KernelState × Outcome). IsRanged x.0) (λ _. answered-ranged k me serial reply.Own mine tt r)
       (λ _. cond_both (not (is_present k to)) _ _ (λ (x : KernelState × Outcome). IsRanged x.0) (λ _. answered-ranged k me serial (reply.Absent _) mine tt r)
-      (λ here. cond_both (takes_from (k.place to.number).status me soon) _ _ (λ (x : KernelState × Outcome). IsRanged x.0) (λ takes. passed-ranged to message soon after (not-false _ here) takes)
-      (λ _. cond_both soon _ _ (λ (x : KernelState × Outcome). IsRanged x.0) (λ _. answered-ranged k me serial (reply.Busy _) mine tt r) (λ _. queued-ranged to message joined))))
+      (λ here. cond_both (takes_from (k.place to.number).status me zero) _ _ (λ (x : KernelState × Outcome). IsRanged x.0) (λ takes. passed-ranged to message zero after (not-false _ here) takes)
+      (λ _. cond_both zero _ _ (λ (x : KernelState × Outcome). IsRanged x.0) (λ _. answered-ranged k me serial (reply.Busy _) mine tt r) (λ _. queued-ranged to message joined))))
 
   taken-ranged : (at : ℕ) → at < length (k.place me.number).waiting → IsRanged (taken k me serial at)
   unfolding taken
@@ -142,16 +142,16 @@ module _ (k : KernelState) (me : ThreadId) (serial : ℕ) (mine : IsKnown k me) 
       sent-ranged (answered m me serial (reply.Got w.0 w.1)) w.0 (k.place w.0.number).serial (status_after (k.place w.0.number).joined me)
       (known-answered m me serial (reply.Got w.0 w.1) w.0 known) (ap is_dead (kept (λ x. x.status) k me.number p refl w.0.number) ∙ lives) two
 
-  received-ranged : (from : Option ThreadId) (soon : Bool) (at : Option ℕ) → match_at k me from ≡ at → IsRanged (received k me serial from soon at).0
+  received-ranged : (from : Option ThreadId) (zero : Bool) (at : Option ℕ) → match_at k me from ≡ at → IsRanged (received k me serial from zero at).0
   unfolding received
-  received-ranged from soon (Some at) e = taken-ranged at (position-Some _ (k.place me.number).waiting at no_one e).0
+  received-ranged from zero (Some at) e = taken-ranged at (position-Some _ (k.place me.number).waiting at no_one e).0
   received-ranged from true None e = answered-ranged k me serial reply.Nobody mine tt r
   received-ranged from false None e = same-ranged k me.number (record (k.place me.number) { status = status.Receiving from; joined = false }) refl (λ _. run) r
 
-  receive-ranged : (from : Option ThreadId) (soon : Bool) → IsRanged (receive k me serial from soon).0
+  receive-ranged : (from : Option ThreadId) (zero : Bool) → IsRanged (receive k me serial from zero).0
   unfolding receive
-  receive-ranged from soon =
-      cond_both (is_own from me) _ _ (λ (x : KernelState × Outcome). IsRanged x.0) (λ _. answered-ranged k me serial reply.Own mine tt r) (λ _. received-ranged from soon (match_at k me from) refl)
+  receive-ranged from zero =
+      cond_both (is_own from me) _ _ (λ (x : KernelState × Outcome). IsRanged x.0) (λ _. answered-ranged k me serial reply.Own mine tt r) (λ _. received-ranged from zero (match_at k me from) refl)
 
   created-ranged : (at : Option ℕ) → lowest (λ n. is_free (k.place n)) k.size ≡ at → IsRanged (created k me serial at).0
   unfolding created
@@ -195,9 +195,9 @@ module _ (k : KernelState) (me : ThreadId) (serial : ℕ) (mine : IsKnown k me) 
 
   made-ranged : (p : Phase) → IsRanged (made k me serial p).0
   unfolding made create
-  made-ranged (phase.Send to message soon joined) = send-ranged to message soon joined (status_after joined to)
-  made-ranged (phase.Reply to message soon) = send-ranged to message soon false status.Picking
-  made-ranged (phase.Receive from soon) = receive-ranged from soon
+  made-ranged (phase.Send to message zero joined) = send-ranged to message zero joined (status_after joined to)
+  made-ranged (phase.Reply to message zero) = send-ranged to message zero false status.Picking
+  made-ranged (phase.Receive from zero) = receive-ranged from zero
   made-ranged (phase.Create program priority) = created-ranged (lowest (λ n. is_free (k.place n)) k.size) refl
   made-ranged (phase.Destroy who) = destroy-ranged who
   made-ranged phase.End = same-ranged k me.number (record (k.place me.number) { status = status.Ended; joined = false }) refl (λ _. run) r

@@ -11,7 +11,7 @@ use Rattle.k_model.specs.State.{KernelState, found_of}
 use Rattle.k_model.specs.Step.{step, is_enabled, outcome_of}
 use Rattle.k_model.specs.Sound.{IsListed, IsSound}
 use Rattle.k_model.proofs.Listed.{acted-listed}
-use Rattle.k_model.specs.Answers.{IsAnswered}
+use Rattle.k_model.specs.Answered.{IsAnswered}
 use Rattle.k_model.proofs.Sound.{acted-sound}
 use Rattle.k_model.proofs.Answered.{acted-answered}
 use Rattle.k_model.specs.History.{IsReplay, calls_of, call_of}

@@ -1,5 +1,5 @@
 -- An event keeps the lists of a state sound.
-use Rattle.std.proofs.Common.{◌≡◌, ◌≢◌, ℕ, zero, suc, ◌<◌, ◌≤◌, Bool, true, false, not, ◌&&◌, ◌==◌, List, [], ◌∷◌, ◌++◌, length, eqb, refl, sym, ap, ◌∙◌, subst, arith, remove, inl, inr, Option, Some, None}
+use Rattle.std.proofs.Common.{◌≡◌, ◌≢◌, ℕ, suc, ◌<◌, ◌≤◌, Bool, true, false, not, ◌&&◌, ◌==◌, List, [], ◌∷◌, ◌++◌, length, eqb, refl, sym, ap, ◌∙◌, subst, arith, remove, inl, inr, Option, Some, None}
 use Rattle.std.specs.List.{AllByRecursion, IsDistinct, list_any, filter}
 use Rattle.std.proofs.lemmas.Bool.{cases_lt, and_parts, eqb-true, not-false, eq-eqb, ne_eqb, or_cases, false≢true, cond_both}
 use Rattle.std.proofs.lemmas.Map.Steps.{length-le_from_distinct_below}
@@ -91,11 +91,11 @@ picking_nowhere k n s at = nowhere_from k n s (λ t e. let no : status.Picking �
 dead_nowhere : (k : KernelState) (n : ℕ) → IsSound k → (k.place n).status ≡ status.Dead → StandsNowhere k n
 dead_nowhere k n s at = nowhere_from k n s (λ t e. let no : status.Dead ≡ status.Sending (id_of k t) = sym at ∙ e in cc)
 
-taker_nowhere : (k : KernelState) (n : ℕ) (who : ThreadId) (soon : Bool) → IsSound k → takes_from (k.place n).status who soon ≡ true → StandsNowhere k n
-taker_nowhere k n who soon s r = nowhere_from k n s (λ t e. let no : false ≡ true = sym (ap (λ (x : Status). takes_from x who soon) e) ∙ r in cc)
+taker_nowhere : (k : KernelState) (n : ℕ) (who : ThreadId) (zero : Bool) → IsSound k → takes_from (k.place n).status who zero ≡ true → StandsNowhere k n
+taker_nowhere k n who zero s r = nowhere_from k n s (λ t e. let no : false ≡ true = sym (ap (λ (x : Status). takes_from x who zero) e) ∙ r in cc)
 
-taker_alive : (st : Status) (who : ThreadId) (soon : Bool) → takes_from st who soon ≡ true → st ≢ status.Dead
-taker_alive st who soon r e = let no : false ≡ true = sym (ap (λ (x : Status). takes_from x who soon) e) ∙ r in cc
+taker_alive : (st : Status) (who : ThreadId) (zero : Bool) → takes_from st who zero ≡ true → st ≢ status.Dead
+taker_alive st who zero r e = let no : false ≡ true = sym (ap (λ (x : Status). takes_from x who zero) e) ∙ r in cc
 
 run_alive : (st : Status) → st ≡ status.Run → st ≢ status.Dead
 run_alive st run e = let no : status.Run ≡ status.Dead = sym run ∙ e in cc
@@ -135,11 +135,11 @@ pub after_alive : (joined : Bool) (to : ThreadId) → status_after joined to ≢
 after_alive true to e = cc
 after_alive false to e = cc
 
-pub passed-sound : (k : KernelState) (me : ThreadId) (serial : ℕ) (to : ThreadId) (message : Message) (soon : Bool) (after : Status) → after ≢ status.Dead → (k.place me.number).status ≡ status.Run → takes_from (k.place to.number).status me soon ≡ true → IsSound k → IsSound (passed k me serial to message after)
+pub passed-sound : (k : KernelState) (me : ThreadId) (serial : ℕ) (to : ThreadId) (message : Message) (zero : Bool) (after : Status) → after ≢ status.Dead → (k.place me.number).status ≡ status.Run → takes_from (k.place to.number).status me zero ≡ true → IsSound k → IsSound (passed k me serial to message after)
 unfolding passed
-passed-sound k me serial to message soon after living run r s =
+passed-sound k me serial to message zero after living run r s =
     let woken = with_status k to.number status.Run in
-    let one = with_status-sound k to.number status.Run (λ e. cc) (taker_alive (k.place to.number).status me soon r) (taker_nowhere k to.number me soon s r) s in
+    let one = with_status-sound k to.number status.Run (λ e. cc) (taker_alive (k.place to.number).status me zero r) (taker_nowhere k to.number me zero s r) s in
     let two = answered-sound woken to (k.place to.number).serial _ one in
     let still : (woken.place me.number).status ≡ status.Run = upd_cases (λ q. q.status ≡ status.Run) k.place to.number (record (k.place to.number) { status = status.Run; joined = false }) me.number (λ _. refl) (λ _. run) in
     sent-sound _ me serial after living (run_alive (woken.place me.number).status still) (run_nowhere _ me.number two still) two
@@ -174,8 +174,8 @@ without-sound k n at s =
     relist-sound k n (record (k.place n) { waiting = remove (k.place n).waiting at }) refl refl (all_remove (IsQueued k n) (k.place n).waiting at (s.queued n)) (distinct_remove (k.place n).waiting at (s.apart n)) (λ e. rw (s.dead n e) (no_rest at)) s
   where
     no_rest : (i : ℕ) → remove {X = Waiting} [] i ≡ []
-    no_rest zero = refl
     no_rest (suc i) = refl
+    no_rest i = refl
 
 pub taken-sound : (k : KernelState) (me : ThreadId) (serial at : ℕ) → at < length (k.place me.number).waiting → IsSound k → IsSound (taken k me serial at)
 unfolding taken
@@ -196,26 +196,26 @@ taken-sound k me serial at ai s =
     same_list : (a b : ThreadId) → status.Sending a ≡ status.Sending b → a.number ≡ b.number
     same_list a b e = let same : a ≡ b = cc in ap (λ (i : ThreadId). i.number) same
 
-pub received-sound : (k : KernelState) (me : ThreadId) (serial : ℕ) (from : Option ThreadId) (soon : Bool) (at : Option ℕ) → (k.place me.number).status ≡ status.Run → match_at k me from ≡ at → IsSound k → IsSound (received k me serial from soon at).0
+pub received-sound : (k : KernelState) (me : ThreadId) (serial : ℕ) (from : Option ThreadId) (zero : Bool) (at : Option ℕ) → (k.place me.number).status ≡ status.Run → match_at k me from ≡ at → IsSound k → IsSound (received k me serial from zero at).0
 unfolding received
-received-sound k me serial from soon (Some at) run e s =
+received-sound k me serial from zero (Some at) run e s =
     taken-sound k me serial at (position-Some _ (k.place me.number).waiting at no_one e).0 s
 received-sound k me serial from true None run e s = answered-sound k me serial _ s
 received-sound k me serial from false None run e s =
     with_status-sound k me.number (status.Receiving from) (λ e. cc) (run_alive (k.place me.number).status run) (run_nowhere k me.number s run) s
 
-pub receive-sound : (k : KernelState) (me : ThreadId) (serial : ℕ) (from : Option ThreadId) (soon : Bool) → (k.place me.number).status ≡ status.Run → IsSound k → IsSound (receive k me serial from soon).0
+pub receive-sound : (k : KernelState) (me : ThreadId) (serial : ℕ) (from : Option ThreadId) (zero : Bool) → (k.place me.number).status ≡ status.Run → IsSound k → IsSound (receive k me serial from zero).0
 unfolding receive
-receive-sound k me serial from soon run s =
-    cond_both (is_own from me) _ _ (λ (r : KernelState × Outcome). IsSound r.0) (λ _. answered-sound k me serial _ s) (λ _. received-sound k me serial from soon (match_at k me from) run refl s)
+receive-sound k me serial from zero run s =
+    cond_both (is_own from me) _ _ (λ (r : KernelState × Outcome). IsSound r.0) (λ _. answered-sound k me serial _ s) (λ _. received-sound k me serial from zero (match_at k me from) run refl s)
 
-pub send-sound : (k : KernelState) (me : ThreadId) (serial : ℕ) (to : ThreadId) (message : Message) (soon joined : Bool) (after : Status) → after ≢ status.Dead → (k.place me.number).status ≡ status.Run → (k.place me.number).version ≡ me.version → IsSound k → IsSound (send k me serial to message soon joined after).0
+pub send-sound : (k : KernelState) (me : ThreadId) (serial : ℕ) (to : ThreadId) (message : Message) (zero joined : Bool) (after : Status) → after ≢ status.Dead → (k.place me.number).status ≡ status.Run → (k.place me.number).version ≡ me.version → IsSound k → IsSound (send k me serial to message zero joined after).0
 unfolding send
-send-sound k me serial to message soon joined after living run mv s =
+send-sound k me serial to message zero joined after living run mv s =
     cond_both (same_id me to) _ _ (λ (r : KernelState × Outcome). IsSound r.0) (λ _. answered-sound k me serial _ s)
     (λ _. cond_both (not (is_present k to)) _ _ (λ (r : KernelState × Outcome). IsSound r.0) (λ _. answered-sound k me serial _ s)
-    (λ here. cond_both (takes_from (k.place to.number).status me soon) _ _ (λ (r : KernelState × Outcome). IsSound r.0) (λ r. passed-sound k me serial to message soon after living run r s)
-    (λ _. cond_both soon _ _ (λ (r : KernelState × Outcome). IsSound r.0) (λ _. answered-sound k me serial _ s)
+    (λ here. cond_both (takes_from (k.place to.number).status me zero) _ _ (λ (r : KernelState × Outcome). IsSound r.0) (λ r. passed-sound k me serial to message zero after living run r s)
+    (λ _. cond_both zero _ _ (λ (r : KernelState × Outcome). IsSound r.0) (λ _. answered-sound k me serial _ s)
     (λ _. queued-sound k me to message joined run mv (not-false _ here) s))))
 
 -- A free number is dead, so it stands in no list and its own is empty.
@@ -270,9 +270,9 @@ destroy-sound k me serial victim s =
 
 pub made-sound : (k : KernelState) (me : ThreadId) (serial : ℕ) (phase : Phase) → (k.place me.number).status ≡ status.Run → (k.place me.number).version ≡ me.version → IsSound k → IsSound (made k me serial phase).0
 unfolding made create
-made-sound k me serial (phase.Send to message soon joined) run mv s = send-sound k me serial to message soon joined (status_after joined to) (after_alive joined to) run mv s
-made-sound k me serial (phase.Reply to message soon) run mv s = send-sound k me serial to message soon false status.Picking (λ e. cc) run mv s
-made-sound k me serial (phase.Receive from soon) run mv s = receive-sound k me serial from soon run s
+made-sound k me serial (phase.Send to message zero joined) run mv s = send-sound k me serial to message zero joined (status_after joined to) (after_alive joined to) run mv s
+made-sound k me serial (phase.Reply to message zero) run mv s = send-sound k me serial to message zero false status.Picking (λ e. cc) run mv s
+made-sound k me serial (phase.Receive from zero) run mv s = receive-sound k me serial from zero run s
 made-sound k me serial (phase.Create program priority) run mv s = created-sound k me serial (lowest (λ n. is_free (k.place n)) k.size) refl s
 made-sound k me serial (phase.Destroy who) run mv s = destroy-sound k me serial who s
 made-sound k me serial phase.End run mv s =
@@ -402,24 +402,24 @@ killed_nowhere k victim here s = λ t.
 size-sent : (k : KernelState) (who : ThreadId) (serial : ℕ) (after : Status) → (sent k who serial after).size ≡ k.size
 size-sent k who serial after = cond_both (is_run after) _ _ (λ (r : KernelState). r.size ≡ k.size) (λ _. refl) (λ _. refl)
 
-size-send : (k : KernelState) (me : ThreadId) (serial : ℕ) (to : ThreadId) (message : Message) (soon joined : Bool) (after : Status) → (send k me serial to message soon joined after).0.size ≡ k.size
+size-send : (k : KernelState) (me : ThreadId) (serial : ℕ) (to : ThreadId) (message : Message) (zero joined : Bool) (after : Status) → (send k me serial to message zero joined after).0.size ≡ k.size
 unfolding send passed queued
-size-send k me serial to message soon joined after =
+size-send k me serial to message zero joined after =
     cond_both (same_id me to) _ _ (λ (r : KernelState × Outcome). r.0.size ≡ k.size) (λ _. refl)
     (λ _. cond_both (not (is_present k to)) _ _ (λ (r : KernelState × Outcome). r.0.size ≡ k.size) (λ _. refl)
-    (λ _. cond_both (takes_from (k.place to.number).status me soon) _ _ (λ (r : KernelState × Outcome). r.0.size ≡ k.size) (λ _. size-sent _ me serial after)
-    (λ _. cond_both soon _ _ (λ (r : KernelState × Outcome). r.0.size ≡ k.size) (λ _. refl) (λ _. refl))))
+    (λ _. cond_both (takes_from (k.place to.number).status me zero) _ _ (λ (r : KernelState × Outcome). r.0.size ≡ k.size) (λ _. size-sent _ me serial after)
+    (λ _. cond_both zero _ _ (λ (r : KernelState × Outcome). r.0.size ≡ k.size) (λ _. refl) (λ _. refl))))
 
-size-received : (k : KernelState) (me : ThreadId) (serial : ℕ) (from : Option ThreadId) (soon : Bool) (at : Option ℕ) → (received k me serial from soon at).0.size ≡ k.size
+size-received : (k : KernelState) (me : ThreadId) (serial : ℕ) (from : Option ThreadId) (zero : Bool) (at : Option ℕ) → (received k me serial from zero at).0.size ≡ k.size
 unfolding received taken
-size-received k me serial from soon (Some at) = size-sent _ (entry_at k me.number at).0 _ _
+size-received k me serial from zero (Some at) = size-sent _ (entry_at k me.number at).0 _ _
 size-received k me serial from true None = refl
 size-received k me serial from false None = refl
 
-size-receive : (k : KernelState) (me : ThreadId) (serial : ℕ) (from : Option ThreadId) (soon : Bool) → (receive k me serial from soon).0.size ≡ k.size
+size-receive : (k : KernelState) (me : ThreadId) (serial : ℕ) (from : Option ThreadId) (zero : Bool) → (receive k me serial from zero).0.size ≡ k.size
 unfolding receive
-size-receive k me serial from soon =
-    cond_both (is_own from me) _ _ (λ (r : KernelState × Outcome). r.0.size ≡ k.size) (λ _. refl) (λ _. size-received k me serial from soon (match_at k me from))
+size-receive k me serial from zero =
+    cond_both (is_own from me) _ _ (λ (r : KernelState × Outcome). r.0.size ≡ k.size) (λ _. refl) (λ _. size-received k me serial from zero (match_at k me from))
 
 size-created : (k : KernelState) (me : ThreadId) (serial : ℕ) (at : Option ℕ) → (created k me serial at).0.size ≡ k.size
 unfolding created
@@ -434,9 +434,9 @@ size-destroy k me serial victim =
 
 pub size-made : (k : KernelState) (me : ThreadId) (serial : ℕ) (p : Phase) → (made k me serial p).0.size ≡ k.size
 unfolding made create
-size-made k me serial (phase.Send to message soon joined) = size-send k me serial to message soon joined _
-size-made k me serial (phase.Reply to message soon) = size-send k me serial to message soon false _
-size-made k me serial (phase.Receive from soon) = size-receive k me serial from soon
+size-made k me serial (phase.Send to message zero joined) = size-send k me serial to message zero joined _
+size-made k me serial (phase.Reply to message zero) = size-send k me serial to message zero false _
+size-made k me serial (phase.Receive from zero) = size-receive k me serial from zero
 size-made k me serial (phase.Create program priority) = size-created k me serial _
 size-made k me serial (phase.Destroy who) = size-destroy k me serial who
 size-made k me serial phase.End = refl

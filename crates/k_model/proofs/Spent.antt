@@ -1,5 +1,5 @@
 -- Each event takes from what is still to come.
-use Rattle.std.proofs.Common.{◌≡◌, ℕ, zero, suc, ◌+◌, ◌*◌, ◌<◌, ◌≤◌, Bool, true, false, not, [], ◌∷◌, ◌++◌, length, refl, sym, ap, ◌∙◌, subst, arith, remove, inl, inr, Option, Some, None}
+use Rattle.std.proofs.Common.{◌≡◌, ℕ, suc, ◌+◌, ◌*◌, ◌<◌, ◌≤◌, Bool, true, false, not, [], ◌∷◌, ◌++◌, length, refl, sym, ap, ◌∙◌, subst, arith, remove, inl, inr, Option, Some, None}
 use Rattle.std.proofs.lemmas.Bool.{cases_lt, cases_eq, and_parts, eqb-true, false≢true, cond_both}
 use Rattle.std.proofs.lemmas.List.Quantifiers.{position-Some}
 use Rattle.k_ids.specs.declared.threads.ThreadId.{ThreadId}
@@ -23,11 +23,10 @@ use Rattle.k_model.proofs.Sound.{kept, called-sound, with_status-sound, acts_ali
 
 module _ (limit : ℕ → ℕ) where
   effort_past : (f : ℕ → Place) (n : ℕ) (q : Place) (size : ℕ) → size ≤ n → effort_below limit (upd f n q) size ≡ effort_below limit f size
-  effort_past f n q zero l = refl
   effort_past f n q (suc m) l = rw (effort_past f n q m (omega (arith, l))) (rw (upd_other f n q m (omega (arith, l))) refl)
+  effort_past f n q m l = refl
 
   effort_upd : (f : ℕ → Place) (n : ℕ) (q : Place) (size : ℕ) → n < size → effort_below limit (upd f n q) size + effort_at (limit n) (f n) ≡ effort_below limit f size + effort_at (limit n) q
-  effort_upd f n q zero l = absurd (omega arith)
   effort_upd f n q (suc m) l = elim (cases_eq n m) [
     | inl e ↦
         let below = effort_past f n q m (omega (arith, e)) in
@@ -37,6 +36,7 @@ module _ (limit : ℕ → ℕ) where
         let below = effort_upd f n q m (omega (arith, l, ne)) in
         rw (upd_other f n q m (λ e. ne (sym e))) (omega (arith, below))
   ]
+  effort_upd f n q m l = absurd (omega arith)
 
   -- One place changes, and takes at most c more.
   place_effort : (k : KernelState) (n : ℕ) (q : Place) (c : ℕ) → effort_at (limit n) q ≤ effort_at (limit n) (k.place n) + c → effort limit (with_place k n q) ≤ effort limit k + c
@@ -73,13 +73,13 @@ module _ (limit : ℕ → ℕ) where
       let two = place_effort m to.number (record (m.place to.number) { waiting = (m.place to.number).waiting ++ (me, message) ∷ [] }) 0 (omega arith) in
       omega (arith, one, two)
 
-  send_effort : (k : KernelState) (me : ThreadId) (serial : ℕ) (to : ThreadId) (message : Message) (soon joined : Bool) (after : Status) → wait_of after ≤ 1 → effort limit (send k me serial to message soon joined after).0 ≤ effort limit k + 1
+  send_effort : (k : KernelState) (me : ThreadId) (serial : ℕ) (to : ThreadId) (message : Message) (zero joined : Bool) (after : Status) → wait_of after ≤ 1 → effort limit (send k me serial to message zero joined after).0 ≤ effort limit k + 1
   unfolding send
-  send_effort k me serial to message soon joined after h =
+  send_effort k me serial to message zero joined after h =
       cond_both (same_id me to) _ _ (λ (r : KernelState × Outcome). effort limit r.0 ≤ effort limit k + 1) (λ _. omega arith)
       (λ _. cond_both (not (is_present k to)) _ _ (λ (r : KernelState × Outcome). effort limit r.0 ≤ effort limit k + 1) (λ _. omega arith)
-      (λ _. cond_both (takes_from (k.place to.number).status me soon) _ _ (λ (r : KernelState × Outcome). effort limit r.0 ≤ effort limit k + 1) (λ _. passed_effort k me serial to message after h)
-      (λ _. cond_both soon _ _ (λ (r : KernelState × Outcome). effort limit r.0 ≤ effort limit k + 1) (λ _. omega arith) (λ _. queued_effort k me to message joined))))
+      (λ _. cond_both (takes_from (k.place to.number).status me zero) _ _ (λ (r : KernelState × Outcome). effort limit r.0 ≤ effort limit k + 1) (λ _. passed_effort k me serial to message after h)
+      (λ _. cond_both zero _ _ (λ (r : KernelState × Outcome). effort limit r.0 ≤ effort limit k + 1) (λ _. omega arith) (λ _. queued_effort k me to message joined))))
 
   -- The sender that is taken did wait, so nothing is added.
   taken_effort : (k : KernelState) (me : ThreadId) (serial at : ℕ) → at < length (k.place me.number).waiting → IsSound k → effort limit (taken k me serial at) ≤ effort limit k
@@ -95,16 +95,16 @@ module _ (limit : ℕ → ℕ) where
       let one = place_effort k me.number p 0 (omega arith) in
       omega (arith, one, sent_effort got w.0 (k.place w.0.number).serial after 0 (omega (arith, waits, after_wait (k.place w.0.number).joined me)))
 
-  received_effort : (k : KernelState) (me : ThreadId) (serial : ℕ) (from : Option ThreadId) (soon : Bool) (at : Option ℕ) → match_at k me from ≡ at → IsSound k → effort limit (received k me serial from soon at).0 ≤ effort limit k + wait_of (status.Receiving from)
+  received_effort : (k : KernelState) (me : ThreadId) (serial : ℕ) (from : Option ThreadId) (zero : Bool) (at : Option ℕ) → match_at k me from ≡ at → IsSound k → effort limit (received k me serial from zero at).0 ≤ effort limit k + wait_of (status.Receiving from)
   unfolding received
-  received_effort k me serial from soon (Some at) e s = omega (arith, taken_effort k me serial at (position-Some _ (k.place me.number).waiting at no_one e).0 s)
+  received_effort k me serial from zero (Some at) e s = omega (arith, taken_effort k me serial at (position-Some _ (k.place me.number).waiting at no_one e).0 s)
   received_effort k me serial from true None e s = omega arith
   received_effort k me serial from false None e s = status_effort k me.number (status.Receiving from) (wait_of (status.Receiving from)) (omega arith)
 
-  receive_effort : (k : KernelState) (me : ThreadId) (serial : ℕ) (from : Option ThreadId) (soon : Bool) → IsSound k → effort limit (receive k me serial from soon).0 ≤ effort limit k + wait_of (status.Receiving from)
+  receive_effort : (k : KernelState) (me : ThreadId) (serial : ℕ) (from : Option ThreadId) (zero : Bool) → IsSound k → effort limit (receive k me serial from zero).0 ≤ effort limit k + wait_of (status.Receiving from)
   unfolding receive
-  receive_effort k me serial from soon s =
-      cond_both (is_own from me) _ _ (λ (r : KernelState × Outcome). effort limit r.0 ≤ effort limit k + wait_of (status.Receiving from)) (λ _. omega arith) (λ _. received_effort k me serial from soon (match_at k me from) refl s)
+  receive_effort k me serial from zero s =
+      cond_both (is_own from me) _ _ (λ (r : KernelState × Outcome). effort limit r.0 ≤ effort limit k + wait_of (status.Receiving from)) (λ _. omega arith) (λ _. received_effort k me serial from zero (match_at k me from) refl s)
 
   receiving_wait : (from : Option ThreadId) → wait_of (status.Receiving from) ≤ 1
   receiving_wait None = omega arith
@@ -116,8 +116,8 @@ module _ (limit : ℕ → ℕ) where
   created_effort k me serial None = omega arith
 
   left_effort : (f : ℕ → Place) (who : ThreadId) (size : ℕ) → effort_below limit (λ n. left_by who (f n)) size ≡ effort_below limit f size
-  left_effort f who zero = refl
   left_effort f who (suc m) = rw (left_effort f who m) refl
+  left_effort f who m = refl
 
   killed_effort : (k : KernelState) (who : ThreadId) → effort limit (killed k who) ≤ effort limit k
   unfolding killed
@@ -133,9 +133,9 @@ module _ (limit : ℕ → ℕ) where
 
   made_effort : (k : KernelState) (me : ThreadId) (serial : ℕ) (p : Phase) → IsSound k → effort limit (made k me serial p).0 ≤ effort limit k + 1 + added_call limit k p
   unfolding made create
-  made_effort k me serial (phase.Send to message soon joined) s = omega (arith, send_effort k me serial to message soon joined (status_after joined to) (after_wait joined to))
-  made_effort k me serial (phase.Reply to message soon) s = omega (arith, send_effort k me serial to message soon false status.Picking (omega arith))
-  made_effort k me serial (phase.Receive from soon) s = omega (arith, receive_effort k me serial from soon s, receiving_wait from)
+  made_effort k me serial (phase.Send to message zero joined) s = omega (arith, send_effort k me serial to message zero joined (status_after joined to) (after_wait joined to))
+  made_effort k me serial (phase.Reply to message zero) s = omega (arith, send_effort k me serial to message zero false status.Picking (omega arith))
+  made_effort k me serial (phase.Receive from zero) s = omega (arith, receive_effort k me serial from zero s, receiving_wait from)
   made_effort k me serial (phase.Create program priority) s = omega (arith, created_effort k me serial (lowest (λ n. is_free (k.place n)) k.size))
   made_effort k me serial (phase.Destroy who) s = omega (arith, destroy_effort k me serial who)
   made_effort k me serial phase.End s = omega (arith, status_effort k me.number status.Ended 1 (omega arith))
@@ -197,9 +197,9 @@ module _ (limit : ℕ → ℕ) where
 -- A call adds one at most to the threads that wait.
 
 none_added : (k : KernelState) (p : Phase) → added_call unlimited k p ≡ 0
-none_added k (phase.Send to message soon joined) = refl
-none_added k (phase.Reply to message soon) = refl
-none_added k (phase.Receive from soon) = refl
+none_added k (phase.Send to message zero joined) = refl
+none_added k (phase.Reply to message zero) = refl
+none_added k (phase.Receive from zero) = refl
 none_added k (phase.Create program priority) = go (lowest (λ n. is_free (k.place n)) k.size)
   where
     go : (at : Option ℕ) → added_at unlimited at ≡ 0

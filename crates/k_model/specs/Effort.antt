@@ -1,5 +1,5 @@
 -- How much is still to come of a state, where each number has a limit of calls.
-use Rattle.std.specs.Prelude.{ℕ, zero, suc, ◌+◌, ◌-◌, ◌*◌, Option, Some, None}
+use Rattle.std.specs.Prelude.{ℕ, suc, ◌+◌, ◌-◌, ◌*◌, Option, Some, None}
 use Rattle.k_ids.specs.declared.threads.Status.{Status}
 use Rattle.k_ids.specs.declared.threads.Status.TheVariants as status
 use Rattle.k_ids.specs.declared.calls.Phase.{Phase}
@@ -25,8 +25,8 @@ abbrev pub effort_at : ℕ → Place → ℕ
 effort_at limit p = 2 * (limit - p.serial) + wait_of p.status
 
 abbrev pub effort_below : (ℕ → ℕ) → (ℕ → Place) → ℕ → ℕ
-effort_below limit place zero = 0
 effort_below limit place (suc n) = effort_below limit place n + effort_at (limit n) (place n)
+effort_below limit place n = 0
 
 abbrev pub effort : (ℕ → ℕ) → KernelState → ℕ
 effort limit k = effort_below limit k.place k.size
@@ -44,9 +44,9 @@ added_at limit None = 0
 added_at limit (Some number) = 2 * limit number
 
 abbrev pub added_call : (ℕ → ℕ) → KernelState → Phase → ℕ
-added_call limit k (phase.Send to message soon joined) = 0
-added_call limit k (phase.Reply to message soon) = 0
-added_call limit k (phase.Receive from soon) = 0
+added_call limit k (phase.Send to message zero joined) = 0
+added_call limit k (phase.Reply to message zero) = 0
+added_call limit k (phase.Receive from zero) = 0
 added_call limit k (phase.Create program priority) = added_at limit (lowest (λ n. is_free (k.place n)) k.size)
 added_call limit k (phase.Destroy who) = 0
 added_call limit k phase.End = 0

@@ -34,11 +34,6 @@ is_message_phase (phase.Create program priority) = false
 is_message_phase (phase.Destroy who) = false
 is_message_phase phase.End = true
 
-abbrev pub is_message_act : Act → Bool
-is_message_act (act.Call phase) = is_message_phase phase
-is_message_act act.Gone = true
-is_message_act act.Pick = true
-
 -- The number has the thread that it had, with the calls that it had made; a settled thread doesn't go on, and a dead number
 -- stays dead. (A destroy leaves its victim so, which `Keeps` doesn't allow.)
 pub record Leaves (old new : KernelState) (t : ℕ) : Type 0 where

@@ -4,6 +4,6 @@ pub mod Step
 pub mod History
 pub mod Sound
 pub mod Effort
-pub mod Answers
+pub mod Answered
 pub mod Keeps
 pub mod Ranges

@@ -9,7 +9,7 @@ ghost use Rattle.k_ids.specs.declared.histories.Event.{Event};
 ghost use Rattle.k_ids.specs.declared.histories.ReplyLine.{ReplyLine};
 ghost use Rattle.k_ids.specs.declared.threads.Status.TheVariants as status;
 ghost use Rattle.k_ids.specs.declared.threads.ThreadId.{ThreadId};
-ghost use Rattle.k_model.specs.Answers.{AddsReplies, IsAnswered, IsEarlierCall, reply_to};
+ghost use Rattle.k_model.specs.Answered.{AddsReplies, IsAnswered, IsEarlierCall, reply_to};
 ghost use Rattle.k_model.specs.Effort.{added, effort, waits};
 ghost use Rattle.k_model.specs.History.{IsReached, opened};
 ghost use Rattle.k_model.specs.Keeps.{renewed_number, IsRenewed, Leaves};

@@ -6,7 +6,7 @@
 //!   to them, and the replies so far.
 //! - `Step`: what each event makes of a state, one definition a call. This is the meaning of the kernel.
 //! - `History`: the opening state, legal histories, and when nothing is to come any more.
-//! - `Sound`, `Answers`, `Effort`: what holds of each state that can be reached, which call has which reply, and how much is
+//! - `Sound`, `Answered`, `Effort`: what holds of each state that can be reached, which call has which reply, and how much is
 //!   still to come. `Keeps`: what an event leaves at each number.
 //!
 //! The functions of this library do nothing: each has a law of these definitions as its contract.

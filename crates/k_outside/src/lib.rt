@@ -23,6 +23,3 @@ pub use memory::{MemSink, MemSource};
 pub use put::put_all;
 pub use source::{Failed, Sink, Source};
 pub use streams::{StdSink, StdSource};
-
-#[cfg(test)]
-mod tests;

@@ -30,8 +30,8 @@ impl<R: Read> Source for StdSource<R> {
 
     ghost faults = { λ s. s.faults };
 
-    /// One read. It fails exactly where the reader does, an interrupted read among them, and each failure is counted; the
-    /// count stands still at 18,446,744,073,709,551,615.
+    /// Reads once, and fails exactly where the reader does, an interrupted read among them. No clause says these two, since a
+    /// reader tells nothing of its calls. Each failure is counted; the count stands still at 18,446,744,073,709,551,615.
     fn take(&mut self, into: &mut [u8]) -> Result<usize, Failed>
         requires { 0 < length into.old }
         ensures bound { IfOk result (λ k. k ≤ length into.old) }
@@ -70,8 +70,8 @@ impl<W: Write> Sink for StdSink<W> {
 
     ghost faults = { λ s. s.faults };
 
-    /// One write. It fails exactly where the writer does or takes no byte, and each failure is counted; the count stands
-    /// still at 18,446,744,073,709,551,615.
+    /// Writes once, and fails exactly where the writer does or takes no byte. No clause says these two, since a writer tells
+    /// nothing of its calls. Each failure is counted; the count stands still at 18,446,744,073,709,551,615.
     fn put(&mut self, piece: &[u8]) -> Result<usize, Failed>
         requires { 0 < length piece.now }
         ensures some { IfOk result (λ k. 0 < k) }

@@ -9,7 +9,7 @@ use Rattle.k_ids.specs.declared.calls.Reply.{Reply}
 use Rattle.k_ids.specs.declared.calls.Reply.TheVariants as reply
 use Rattle.k_ids.specs.declared.histories.ReplyLine.{ReplyLine}
 use Rattle.k_model.specs.State.{KernelState}
-use Rattle.k_model.specs.Answers.{reply_to, is_reply_to}
+use Rattle.k_model.specs.Answered.{reply_to, is_reply_to}
 use Rattle.k_model.specs.Ranges.{IsRanged, IsKnown, TellsKnown}
 use Rattle.k_machine.specs.Machine.{NamesInside}
 use Rattle.k_script.specs.declared.operation.Operation.{Operation}
@@ -55,9 +55,9 @@ tells_in k id serial table size r = go (reply_to k.replies id serial) refl
 
 -- A call in range names numbers of the table.
 pub names_inside : (script : Script) (p : Phase) → NamesInRange script p → NamesInside script.table p
-names_inside script (phase.Send to message soon joined) h = h.number
-names_inside script (phase.Reply to message soon) h = h.number
-names_inside script (phase.Receive from soon) h = tt
+names_inside script (phase.Send to message zero joined) h = h.number
+names_inside script (phase.Reply to message zero) h = h.number
+names_inside script (phase.Receive from zero) h = tt
 names_inside script (phase.Create program priority) h = tt
 names_inside script (phase.Destroy victim) h = h.number
 names_inside script phase.End h = tt

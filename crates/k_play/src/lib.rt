@@ -9,8 +9,9 @@
 //!
 //! - [`play_script`] ends, and its history is a legal, playing, finished history of the script, with the replies and the
 //!   final statuses of the state that it leaves (specs/Reports.antt: `IsRun`).
-//! - All memory is taken before the first event, for two events for each call that the script's threads and those which they
-//!   create may make: a call may wait, and is then followed by one event more. No event takes any.
+//! - No event takes memory. That of the history and of the machine is taken before the first event, for two events for each
+//!   call that the script's threads and those which they create may make: a call may wait, and is then followed by one event
+//!   more. That of the sorted replies and of the final statuses is taken behind the last event.
 //!
 //! An event costs what the machine's step costs, and the choice of its thread looks at each number once.
 #![tactic(auto)]

@@ -26,9 +26,9 @@ made_inside k n e o ok = let g = step_gives k n e o ok in go e.act g.0 g.1
         subst (MakesInside k.size (Some program)) is (acted_renews k e.who e.serial (act.Call (phase.Create program priority)) number may found).inside
 
     go : (a : Act) → may_act k e.who e.serial a ≡ true → acted k e.who e.serial a ≡ (n, o) → MakesInside k.size (created_program a) o
-    go (act.Call (phase.Send to message soon joined)) may gives = tt
-    go (act.Call (phase.Reply to message soon)) may gives = tt
-    go (act.Call (phase.Receive from soon)) may gives = tt
+    go (act.Call (phase.Send to message zero joined)) may gives = tt
+    go (act.Call (phase.Reply to message zero)) may gives = tt
+    go (act.Call (phase.Receive from zero)) may gives = tt
     go (act.Call (phase.Create program priority)) may gives = create program priority (renewed_call (called k e.who e.serial) (phase.Create program priority)) refl may gives
     go (act.Call (phase.Destroy victim)) may gives = tt
     go (act.Call phase.End) may gives = tt

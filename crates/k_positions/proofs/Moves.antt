@@ -72,9 +72,9 @@ module _ (script : Script) (k n : KernelState) (at to : ℕ → Position) (who :
         (λ t ne nq. others_to u to number start renewed t nq ∙ upd_other at who.number there t ne)
 
     pub moves_by : (a : Act) → Happens a → IsNextAct script k at who a → ((t : ℕ) → to t ≡ positions_after script k at (entry_for who serial a o) t) → G a
-    moves_by (act.Call (phase.Send t m soon joined)) g next tos = plain (phase.Send t m soon joined) g next refl (λ id. none_made (entry_for who serial (act.Call (phase.Send t m soon joined)) o) id refl) tos
-    moves_by (act.Call (phase.Reply t m soon)) g next tos = plain (phase.Reply t m soon) g next refl (λ id. none_made (entry_for who serial (act.Call (phase.Reply t m soon)) o) id refl) tos
-    moves_by (act.Call (phase.Receive from soon)) g next tos = plain (phase.Receive from soon) g next refl (λ id. none_made (entry_for who serial (act.Call (phase.Receive from soon)) o) id refl) tos
+    moves_by (act.Call (phase.Send t m zero joined)) g next tos = plain (phase.Send t m zero joined) g next refl (λ id. none_made (entry_for who serial (act.Call (phase.Send t m zero joined)) o) id refl) tos
+    moves_by (act.Call (phase.Reply t m zero)) g next tos = plain (phase.Reply t m zero) g next refl (λ id. none_made (entry_for who serial (act.Call (phase.Reply t m zero)) o) id refl) tos
+    moves_by (act.Call (phase.Receive from zero)) g next tos = plain (phase.Receive from zero) g next refl (λ id. none_made (entry_for who serial (act.Call (phase.Receive from zero)) o) id refl) tos
     moves_by (act.Call (phase.Create program priority)) g next tos = create program priority (renewed_call (called k who serial) (phase.Create program priority)) refl g next tos
     moves_by (act.Call (phase.Destroy victim)) g next tos = plain (phase.Destroy victim) g next refl (λ id. none_made (entry_for who serial (act.Call (phase.Destroy victim)) o) id refl) tos
     moves_by (act.Call phase.End) g next tos = plain phase.End g next refl (λ id. none_made (entry_for who serial (act.Call phase.End) o) id refl) tos

@@ -5,7 +5,7 @@ use Rattle.k_ids.specs.declared.histories.Entry.{Entry}
 use Rattle.k_model.specs.State.{KernelState, id_of, is_dead}
 use Rattle.k_model.specs.Sound.{IsSound}
 use Rattle.k_model.specs.Ranges.{IsRanged}
-use Rattle.k_model.specs.Answers.{IsAnswered}
+use Rattle.k_model.specs.Answered.{IsAnswered}
 use Rattle.k_model.specs.Keeps.{is_settled}
 use Rattle.k_model.specs.History.{IsReplay, calls_of}
 use Rattle.k_script.specs.Script.{Script}

@@ -15,7 +15,7 @@ use Rattle.k_model.specs.State.{KernelState, id_of, is_dead, same_id}
 use Rattle.k_model.specs.Step.{step, may_act, acted, called}
 use Rattle.k_model.specs.Sound.{IsSound}
 use Rattle.k_model.specs.Ranges.{IsRanged}
-use Rattle.k_model.specs.Answers.{IsAnswered, IsEarlierCall, reply_to}
+use Rattle.k_model.specs.Answered.{IsAnswered, IsEarlierCall, reply_to}
 use Rattle.k_model.specs.Keeps.{IsRenewed, is_settled, Leaves, renewed_number}
 use Rattle.k_model.specs.History.{calls_of, call_in}
 use Rattle.k_model.proofs.Sound.{acted-sound, acts_alive, size-acted, run_from}

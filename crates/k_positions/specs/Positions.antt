@@ -10,7 +10,7 @@ use Rattle.k_ids.specs.declared.calls.Outcome.TheVariants as outcome
 use Rattle.k_ids.specs.declared.histories.Entry.{Entry}
 use Rattle.k_model.specs.Maps.{upd}
 use Rattle.k_model.specs.State.{KernelState}
-use Rattle.k_model.specs.Answers.{reply_to}
+use Rattle.k_model.specs.Answered.{reply_to}
 use Rattle.k_script.specs.Script.{Script}
 use Rattle.k_script.specs.Plays.{Position, phase_next, moved, start_of, created_program, no_thread}
 use Rattle.k_script.specs.Place.{Place, IsPlace, position_in, no_place}

@@ -59,11 +59,11 @@ accept-from d [] l n h = absurd n
 accept-from d (w ∷ ws) l n h = rw n (rw h refl)
 
 operation_not_turns : (ps : List Program) (r : Operation) → not_turns (spelled (line.Operation (operation_line ps r)))
-operation_not_turns ps (operation.Send to low high soon) = refl
-operation_not_turns ps (operation.Receive (Some from) soon) = refl
-operation_not_turns ps (operation.Receive None soon) = refl
-operation_not_turns ps (operation.Call to low high soon) = refl
-operation_not_turns ps (operation.Reply low high soon) = refl
+operation_not_turns ps (operation.Send to low high zero) = refl
+operation_not_turns ps (operation.Receive (Some from) zero) = refl
+operation_not_turns ps (operation.Receive None zero) = refl
+operation_not_turns ps (operation.Call to low high zero) = refl
+operation_not_turns ps (operation.Reply low high zero) = refl
 operation_not_turns ps (operation.Create program priority) = refl
 operation_not_turns ps (operation.Destroy victim) = refl
 operation_not_turns ps (operation.Work count) = refl
@@ -117,11 +117,11 @@ ages-good table [] small h = tt
 ages-good table (a ∷ ages) small h = let inside = h.0.number in let high = h.0.version.1 in (record { named = tt; proper = (number_proper a.number (omega (arith, inside, small)), number_proper a.version (omega (arith, high))); other = refl }, ages-good table ages small h.1)
 
 operation-named : (table before : ℕ) (ps : List Program) (r : Operation) → ((k : ℕ) → k < before → is_name (program_in ps k).name ≡ true) → IsOperation table before r → IsNamedOperation (operation_line ps r)
-operation-named table before ps (operation.Send to low high soon) n h = tt
-operation-named table before ps (operation.Receive (Some from) soon) n h = tt
-operation-named table before ps (operation.Receive None soon) n h = tt
-operation-named table before ps (operation.Call to low high soon) n h = tt
-operation-named table before ps (operation.Reply low high soon) n h = tt
+operation-named table before ps (operation.Send to low high zero) n h = tt
+operation-named table before ps (operation.Receive (Some from) zero) n h = tt
+operation-named table before ps (operation.Receive None zero) n h = tt
+operation-named table before ps (operation.Call to low high zero) n h = tt
+operation-named table before ps (operation.Reply low high zero) n h = tt
 operation-named table before ps (operation.Create program priority) n h = n program h.0
 operation-named table before ps (operation.Destroy victim) n h = tt
 operation-named table before ps (operation.Work count) n h = tt

@@ -86,11 +86,11 @@ operation-line v t c s ages ps o p r ts events h i j =
 
 -- Programs that come later change no line of those before.
 stable_operation : (table before : ℕ) (ps qs : List Program) (r : Operation) → before ≤ length ps → IsOperation table before r → operation_line (ps ++ qs) r ≡ operation_line ps r
-stable_operation table before ps qs (operation.Send to low high soon) l h = refl
-stable_operation table before ps qs (operation.Receive (Some from) soon) l h = refl
-stable_operation table before ps qs (operation.Receive None soon) l h = refl
-stable_operation table before ps qs (operation.Call to low high soon) l h = refl
-stable_operation table before ps qs (operation.Reply low high soon) l h = refl
+stable_operation table before ps qs (operation.Send to low high zero) l h = refl
+stable_operation table before ps qs (operation.Receive (Some from) zero) l h = refl
+stable_operation table before ps qs (operation.Receive None zero) l h = refl
+stable_operation table before ps qs (operation.Call to low high zero) l h = refl
+stable_operation table before ps qs (operation.Reply low high zero) l h = refl
 stable_operation table before ps qs (operation.Create program priority) l h = ap (λ (p : Program). op.Create p.name (exactly priority)) (get_or_append_left ps qs nothing program (omega (arith, l, h.0)))
 stable_operation table before ps qs (operation.Destroy victim) l h = refl
 stable_operation table before ps qs (operation.Work count) l h = refl

@@ -50,11 +50,11 @@ found_before ps qs k h d = ap (λ (p : Program). program_at p.name ps) (get_or_a
 
 pub operation-given : (table : ℕ) (ps qs : List Program) (r : Operation) → IsDistinct bytes_eq (map (λ p. p.name) ps) → IsOperation table (length ps) r → operation_in table ps (operation_line (ps ++ qs) r) ≡ Ok r
 unfolding operation_in
-operation-given table ps qs (operation.Send to low high soon) d h = ap (λ (x : Result (Who × Value × Value) Why). on_ok x (λ m. Ok (operation.Send m.0 m.1 m.2 soon))) (message-given table to low high h.0 h.1 h.2)
-operation-given table ps qs (operation.Receive (Some from) soon) d h = ap (λ (x : Result Who Why). on_ok x (λ t. Ok (operation.Receive (Some t) soon))) (thread-given table from h)
-operation-given table ps qs (operation.Receive None soon) d h = refl
-operation-given table ps qs (operation.Call to low high soon) d h = ap (λ (x : Result (Who × Value × Value) Why). on_ok x (λ m. Ok (operation.Call m.0 m.1 m.2 soon))) (message-given table to low high h.0 h.1 h.2)
-operation-given table ps qs (operation.Reply low high soon) d h = rw (value-given low h.0) (rw (value-given high h.1) refl)
+operation-given table ps qs (operation.Send to low high zero) d h = ap (λ (x : Result (Who × Value × Value) Why). on_ok x (λ m. Ok (operation.Send m.0 m.1 m.2 zero))) (message-given table to low high h.0 h.1 h.2)
+operation-given table ps qs (operation.Receive (Some from) zero) d h = ap (λ (x : Result Who Why). on_ok x (λ t. Ok (operation.Receive (Some t) zero))) (thread-given table from h)
+operation-given table ps qs (operation.Receive None zero) d h = refl
+operation-given table ps qs (operation.Call to low high zero) d h = ap (λ (x : Result (Who × Value × Value) Why). on_ok x (λ m. Ok (operation.Call m.0 m.1 m.2 zero))) (message-given table to low high h.0 h.1 h.2)
+operation-given table ps qs (operation.Reply low high zero) d h = rw (value-given low h.0) (rw (value-given high h.1) refl)
 operation-given table ps qs (operation.Create program priority) d h = rw (in_range-spelled 0 63 priority (omega arith) h.1) (rw (found_before ps qs program h.0 d) refl)
 operation-given table ps qs (operation.Destroy victim) d h = ap (λ (x : Result Who Why). on_ok x (λ t. Ok (operation.Destroy t))) (thread-given table victim h)
 operation-given table ps qs (operation.Work count) d h = rw (in_range-spelled 1 4294967295 count h.0 h.1) refl
@@ -63,11 +63,11 @@ operation-given table ps qs operation.Again d h = refl
 
 -- it stands where it may
 pub nests-well : (ps : List Program) (d e : ℕ) (r : Operation) → depth_after d r ≡ Some e → misnests (Some d) (operation_line ps r) ≡ false
-nests-well ps d e (operation.Send to low high soon) h = refl
-nests-well ps d e (operation.Receive (Some from) soon) h = refl
-nests-well ps d e (operation.Receive None soon) h = refl
-nests-well ps d e (operation.Call to low high soon) h = refl
-nests-well ps d e (operation.Reply low high soon) h = refl
+nests-well ps d e (operation.Send to low high zero) h = refl
+nests-well ps d e (operation.Receive (Some from) zero) h = refl
+nests-well ps d e (operation.Receive None zero) h = refl
+nests-well ps d e (operation.Call to low high zero) h = refl
+nests-well ps d e (operation.Reply low high zero) h = refl
 nests-well ps d e (operation.Create program priority) h = refl
 nests-well ps d e (operation.Destroy victim) h = refl
 nests-well ps d e (operation.Work count) h = refl

@@ -1,5 +1,5 @@
 -- Counts that stand still at the end of their type.
-use Rattle.std.proofs.Common.{◌≡◌, ℕ, zero, suc, ◌+◌, ◌*◌, ◌-◌, ◌<◌, ◌≤◌, min, false, List, [], ◌∷◌, ◌++◌, length, take, drop, set, get_or, slice_index, refl, sym, ap, ◌∙◌, subst, arith, inl, inr, Some, get_or-set_same, get_or-set_other, ◌≢◌, length-append, length-take-le, replicate}
+use Rattle.std.proofs.Common.{◌≡◌, ℕ, suc, ◌+◌, ◌*◌, ◌-◌, ◌<◌, ◌≤◌, min, false, List, [], ◌∷◌, ◌++◌, length, take, drop, set, get_or, slice_index, refl, sym, ap, ◌∙◌, subst, arith, inl, inr, Some, get_or-set_same, get_or-set_other, ◌≢◌, length-append, length-take-le, replicate}
 use Rattle.std.proofs.lemmas.Bool.{cases_lt}
 use Rattle.std.proofs.lemmas.List.{get_or_past, get_or_append_left, take_more}
 use Rattle.std.proofs.Math.Seq.{get_or-append_seam, drop-cons}
@@ -16,13 +16,13 @@ add_at : (m a b : ℕ) → min (min a m + min b m) m ≡ min (a + b) m
 add_at m a b = omega arith
 
 mul_at : (m n x : ℕ) → min (n * min x m) m ≡ min (n * x) m
-mul_at m zero x = omega arith
 mul_at m (suc k) x = elim (cases_lt m x) [
   | inl l ↦
       let e : min x m ≡ m = omega arith in
       rw e (omega arith)
   | inr g ↦ let e : min x m ≡ x = omega arith in rw e refl
 ]
+mul_at m k x = omega arith
 
 pub capped_add : (a b : ℕ) → capped (capped a + capped b) ≡ capped (a + b)
 capped_add a b = add_at 18446744073709551615 a b
@@ -47,8 +47,8 @@ added_capped x n a b c d e (t ∷ ts) h some is = go
     first = h 0
 
     go : AreCapped (capped (x + a) ∷ b ∷ c ∷ d ∷ e ∷ []) ((n + t) ∷ ts)
-    go zero = rw (is, first) (capped_add n t)
     go (suc k) = h (suc k)
+    go k = rw (is, first) (capped_add n t)
 
 -- what a repeat counts
 turns_capped : (count turn a b body after : ℕ) → turn ≤ 18446744073709551615 → a ≡ capped body → b ≡ capped after → capped (capped (count * capped (a + turn)) + b) ≡ capped (count * (body + turn) + after)
@@ -64,29 +64,29 @@ multiplied_capped count turn a b c d e [] small h some = absurd (omega arith)
 multiplied_capped count turn a b c d e (body ∷ []) small h some = go
   where
     go : AreCapped (capped (capped (count * capped (a + turn)) + b) ∷ c ∷ d ∷ e ∷ 0 ∷ []) ((count * (body + turn)) ∷ [])
-    go zero = turns_capped count turn a b body 0 small (h 0) (h 1) ∙ ap capped (omega arith)
-    go (suc zero) = h 2
-    go (suc (suc zero)) = h 3
-    go (suc (suc (suc zero))) = h 4
-    go (suc (suc (suc (suc zero)))) = h 5
     go (suc (suc (suc (suc (suc k))))) = h (suc (suc (suc (suc (suc (suc k))))))
+    go (suc (suc (suc (suc k)))) = h 5
+    go (suc (suc (suc k))) = h 4
+    go (suc (suc k)) = h 3
+    go (suc k) = h 2
+    go k = turns_capped count turn a b body 0 small (h 0) (h 1) ∙ ap capped (omega arith)
 multiplied_capped count turn a b c d e (body ∷ after ∷ more) small h some = go
   where
     go : AreCapped (capped (capped (count * capped (a + turn)) + b) ∷ c ∷ d ∷ e ∷ 0 ∷ []) ((count * (body + turn) + after) ∷ more)
-    go zero = turns_capped count turn a b body after small (h 0) (h 1)
-    go (suc zero) = h 2
-    go (suc (suc zero)) = h 3
-    go (suc (suc (suc zero))) = h 4
-    go (suc (suc (suc (suc zero)))) = h 5
     go (suc (suc (suc (suc (suc k))))) = h (suc (suc (suc (suc (suc (suc k))))))
+    go (suc (suc (suc (suc k)))) = h 5
+    go (suc (suc (suc k))) = h 4
+    go (suc (suc k)) = h 3
+    go (suc k) = h 2
+    go k = turns_capped count turn a b body after small (h 0) (h 1)
 
 pub plain_totals : (s : Scale) (exact : List ℕ) (op : Operation) (ts : List ℕ) → is_marker op ≡ false → totals_before s exact op ts ≡ added (cost s exact op) ts
 plain_totals s exact (operation.Repeat count) ts h = absurd cc
 plain_totals s exact operation.Again ts h = absurd cc
-plain_totals s exact (operation.Send to low high soon) ts h = refl
-plain_totals s exact (operation.Receive from soon) ts h = refl
-plain_totals s exact (operation.Call to low high soon) ts h = refl
-plain_totals s exact (operation.Reply low high soon) ts h = refl
+plain_totals s exact (operation.Send to low high zero) ts h = refl
+plain_totals s exact (operation.Receive from zero) ts h = refl
+plain_totals s exact (operation.Call to low high zero) ts h = refl
+plain_totals s exact (operation.Reply low high zero) ts h = refl
 plain_totals s exact (operation.Create program priority) ts h = refl
 plain_totals s exact (operation.Destroy victim) ts h = refl
 plain_totals s exact (operation.Work count) ts h = refl
@@ -108,10 +108,10 @@ same_depth a b h = cc
 length_totals_before : (s : Scale) (exact : List ℕ) (op : Operation) (depth d : ℕ) (ts : List ℕ) → depth_after depth op ≡ Some d → length ts ≡ d + 1 → length (totals_before s exact op ts) ≡ depth + 1
 length_totals_before s exact (operation.Repeat count) depth d ts h e = let o = open_repeat depth d count h in omega (arith, o.0, o.1, length_multiplied s.turn count ts (omega (arith, o.1, e)))
 length_totals_before s exact operation.Again depth d ts h e = let o = open_again depth d h in omega (arith, o.0, o.1)
-length_totals_before s exact (operation.Send to low high soon) depth d ts h e = omega (arith, same_depth depth d h, length_added (cost s exact (operation.Send to low high soon)) ts)
-length_totals_before s exact (operation.Receive from soon) depth d ts h e = omega (arith, same_depth depth d h, length_added (cost s exact (operation.Receive from soon)) ts)
-length_totals_before s exact (operation.Call to low high soon) depth d ts h e = omega (arith, same_depth depth d h, length_added (cost s exact (operation.Call to low high soon)) ts)
-length_totals_before s exact (operation.Reply low high soon) depth d ts h e = omega (arith, same_depth depth d h, length_added (cost s exact (operation.Reply low high soon)) ts)
+length_totals_before s exact (operation.Send to low high zero) depth d ts h e = omega (arith, same_depth depth d h, length_added (cost s exact (operation.Send to low high zero)) ts)
+length_totals_before s exact (operation.Receive from zero) depth d ts h e = omega (arith, same_depth depth d h, length_added (cost s exact (operation.Receive from zero)) ts)
+length_totals_before s exact (operation.Call to low high zero) depth d ts h e = omega (arith, same_depth depth d h, length_added (cost s exact (operation.Call to low high zero)) ts)
+length_totals_before s exact (operation.Reply low high zero) depth d ts h e = omega (arith, same_depth depth d h, length_added (cost s exact (operation.Reply low high zero)) ts)
 length_totals_before s exact (operation.Create program priority) depth d ts h e = omega (arith, same_depth depth d h, length_added (cost s exact (operation.Create program priority)) ts)
 length_totals_before s exact (operation.Destroy victim) depth d ts h e = omega (arith, same_depth depth d h, length_added (cost s exact (operation.Destroy victim)) ts)
 length_totals_before s exact (operation.Work count) depth d ts h e = omega (arith, same_depth depth d h, length_added (cost s exact (operation.Work count)) ts)
@@ -145,9 +145,9 @@ program_totals_push s before [] p = refl
 program_totals_push s before (q ∷ ps) p = program_totals_push s (before ++ program_total s before q.operations ∷ []) ps p
 
 pub zero_at : (n k : ℕ) → ◌≡◌ {A = ℕ} (get_or (replicate n 0) k 0) 0
-zero_at zero k = refl
-zero_at (suc n) zero = refl
 zero_at (suc n) (suc k) = zero_at n k
+zero_at (suc n) k = refl
+zero_at n k = refl
 
 pub capped_push : (counts exact : List ℕ) (i x y : ℕ) → AreCapped counts exact → length exact ≡ i → i < length counts → x ≡ capped y → AreCapped (set counts i x) (exact ++ y ∷ [])
 capped_push counts exact i x y h size inside is = go

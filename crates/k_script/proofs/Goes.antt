@@ -40,9 +40,9 @@ runs_later version a b p q s next (c ∷ calls) same h =
 
 -- HOW MUCH IS LEFT: each call takes one at least, until the end was made, and a create what it gives.
 
-given_by_reply : (script : Script) (version : ℕ) (to : ThreadId) (message : Message) (soon two : Bool) → (version == 2) ≡ two → phases_given script (reply_phase version to message soon) ≡ 0
-given_by_reply script version to message soon true e = rw e refl
-given_by_reply script version to message soon false e = rw e refl
+given_by_reply : (script : Script) (version : ℕ) (to : ThreadId) (message : Message) (zero two : Bool) → (version == 2) ≡ two → phases_given script (reply_phase version to message zero) ≡ 0
+given_by_reply script version to message zero true e = rw e refl
+given_by_reply script version to message zero false e = rw e refl
 
 abbrev counted : Script → Operation → ℕ
 counted script op = cost phase_scale (program_phases script) op
@@ -54,12 +54,12 @@ costs script version r op ops e = omega (arith, e, sum_by-cons (counted script) 
 next_costs : (script : Script) (version : ℕ) (r : Registers) (ops : List Operation) → phases_left script (first_move r (after_work ops)) + phases_given script (first_phase version r (after_work ops)) + 1 ≤ sum_by (counted script) ops + 1
 next_costs script version r [] = omega arith
 next_costs script version r (operation.Work count ∷ ops) = omega (arith, sum_by-cons (counted script) (operation.Work count) ops, next_costs script version r ops)
-next_costs script version r (operation.Send to low high soon ∷ ops) = costs script version r (operation.Send to low high soon) ops refl
-next_costs script version r (operation.Receive from soon ∷ ops) = costs script version r (operation.Receive from soon) ops refl
-next_costs script version r (operation.Call to low high soon ∷ ops) = costs script version r (operation.Call to low high soon) ops refl
-next_costs script version r (operation.Reply low high soon ∷ ops) =
-    let none : phases_given script (reply_phase version r.last (message_of r low high) soon) ≡ 0 = given_by_reply script version r.last (message_of r low high) soon (version == 2) refl in
-    costs script version r (operation.Reply low high soon) ops (omega (arith, none))
+next_costs script version r (operation.Send to low high zero ∷ ops) = costs script version r (operation.Send to low high zero) ops refl
+next_costs script version r (operation.Receive from zero ∷ ops) = costs script version r (operation.Receive from zero) ops refl
+next_costs script version r (operation.Call to low high zero ∷ ops) = costs script version r (operation.Call to low high zero) ops refl
+next_costs script version r (operation.Reply low high zero ∷ ops) =
+    let none : phases_given script (reply_phase version r.last (message_of r low high) zero) ≡ 0 = given_by_reply script version r.last (message_of r low high) zero (version == 2) refl in
+    costs script version r (operation.Reply low high zero) ops (omega (arith, none))
 next_costs script version r (operation.Create program priority ∷ ops) = costs script version r (operation.Create program priority) ops (omega arith)
 next_costs script version r (operation.Destroy who ∷ ops) = costs script version r (operation.Destroy who) ops refl
 next_costs script version r (operation.Repeat count ∷ ops) = costs script version r (operation.Repeat count) ops refl

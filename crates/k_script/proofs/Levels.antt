@@ -1,5 +1,5 @@
 -- The levels of what is left of a program: there is one more of them than repeats are open.
-use Rattle.std.proofs.Common.{◌≡◌, ℕ, zero, suc, ◌+◌, ◌-◌, ◌<◌, ◌≤◌, nat_lt, List, [], ◌∷◌, length, drop, refl, sym, ap, ◌∙◌, arith, Option, Some, None, slice_get, inl, inr, add-one, option_and_then}
+use Rattle.std.proofs.Common.{◌≡◌, ℕ, suc, ◌+◌, ◌-◌, ◌<◌, ◌≤◌, nat_lt, List, [], ◌∷◌, length, drop, refl, sym, ap, ◌∙◌, arith, Option, Some, None, slice_get, inl, inr, add-one, option_and_then}
 use Rattle.std.proofs.lemmas.Bool.{cases_Bool}
 use borrow.Author.Tests.{ltb-true}
 use Rattle.std.proofs.lemmas.Option.{slice_get_cases}
@@ -69,10 +69,10 @@ some_is a b h = cc
 length_before : (op : Operation) (depth d : ℕ) (ls : List (List Operation)) → depth_after depth op ≡ Some d → length ls ≡ d + 1 → length (levels_before op ls) ≡ depth + 1
 length_before (operation.Repeat count) depth d ls h e = let o = open_repeat depth d count h in omega (arith, o.0, o.1, length_repeated count ls (omega (arith, o.1, e)))
 length_before operation.Again depth d ls h e = let o = open_again depth d h in omega (arith, o.0, o.1)
-length_before (operation.Send to low high soon) depth d ls h e = omega (arith, some_is depth d h, length_in_front (operation.Send to low high soon) ls)
-length_before (operation.Receive from soon) depth d ls h e = omega (arith, some_is depth d h, length_in_front (operation.Receive from soon) ls)
-length_before (operation.Call to low high soon) depth d ls h e = omega (arith, some_is depth d h, length_in_front (operation.Call to low high soon) ls)
-length_before (operation.Reply low high soon) depth d ls h e = omega (arith, some_is depth d h, length_in_front (operation.Reply low high soon) ls)
+length_before (operation.Send to low high zero) depth d ls h e = omega (arith, some_is depth d h, length_in_front (operation.Send to low high zero) ls)
+length_before (operation.Receive from zero) depth d ls h e = omega (arith, some_is depth d h, length_in_front (operation.Receive from zero) ls)
+length_before (operation.Call to low high zero) depth d ls h e = omega (arith, some_is depth d h, length_in_front (operation.Call to low high zero) ls)
+length_before (operation.Reply low high zero) depth d ls h e = omega (arith, some_is depth d h, length_in_front (operation.Reply low high zero) ls)
 length_before (operation.Create program priority) depth d ls h e = omega (arith, some_is depth d h, length_in_front (operation.Create program priority) ls)
 length_before (operation.Destroy victim) depth d ls h e = omega (arith, some_is depth d h, length_in_front (operation.Destroy victim) ls)
 length_before (operation.Work count) depth d ls h e = omega (arith, some_is depth d h, length_in_front (operation.Work count) ls)
@@ -86,21 +86,21 @@ length_levels depth (op ∷ ops) h =
 pub depth_few : (op : Operation) (depth d : ℕ) → depth ≤ 4 → depth_after depth op ≡ Some d → d ≤ 4
 depth_few (operation.Repeat count) depth d few h = let o = open_repeat depth d count h in omega (arith, o.0, o.1)
 depth_few operation.Again depth d few h = let o = open_again depth d h in omega (arith, o.0, o.1)
-depth_few (operation.Send to low high soon) depth d few h = omega (arith, some_is depth d h)
-depth_few (operation.Receive from soon) depth d few h = omega (arith, some_is depth d h)
-depth_few (operation.Call to low high soon) depth d few h = omega (arith, some_is depth d h)
-depth_few (operation.Reply low high soon) depth d few h = omega (arith, some_is depth d h)
+depth_few (operation.Send to low high zero) depth d few h = omega (arith, some_is depth d h)
+depth_few (operation.Receive from zero) depth d few h = omega (arith, some_is depth d h)
+depth_few (operation.Call to low high zero) depth d few h = omega (arith, some_is depth d h)
+depth_few (operation.Reply low high zero) depth d few h = omega (arith, some_is depth d h)
 depth_few (operation.Create program priority) depth d few h = omega (arith, some_is depth d h)
 depth_few (operation.Destroy victim) depth d few h = omega (arith, some_is depth d h)
 depth_few (operation.Work count) depth d few h = omega (arith, some_is depth d h)
 
 -- So it is behind each operation of a program.
 pub nested_behind : (depth : ℕ) (ops : List Operation) (k : ℕ) → depth ≤ 4 → depth_behind depth ops ≡ Some 0 → (d : ℕ) × (d ≤ 4) × (depth_behind d (drop k ops) ≡ Some 0)
-nested_behind depth ops zero few h = (depth, few, h)
 nested_behind depth [] (suc k) few h = (depth, few, h)
 nested_behind depth (op ∷ ops) (suc k) few h =
     let o = open_behind depth op ops h in
     nested_behind o.0 ops k (depth_few op depth o.0 few o.1) o.2
+nested_behind depth ops k few h = (depth, few, h)
 
 pub levels_few : (ops : List Operation) (k : ℕ) → depth_behind 0 ops ≡ Some 0 → (1 ≤ length (levels (drop k ops))) × (length (levels (drop k ops)) ≤ 5)
 levels_few ops k h =

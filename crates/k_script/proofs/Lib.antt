@@ -11,4 +11,3 @@ pub mod Large
 pub mod Written
 pub mod Quarter
 pub mod Weighed
-pub mod Tried

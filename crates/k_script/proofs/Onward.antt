@@ -1,5 +1,5 @@
 -- What comes next of a program: the place that is kept gives the operations that are left.
-use Rattle.std.proofs.Common.{◌≡◌, ℕ, zero, suc, ◌<◌, ◌≤◌, Bool, true, false, ◌&&◌, List, [], ◌∷◌, length, get_or, refl, sym, ◌∙◌, subst, arith, Option, Some, None, inl, inr}
+use Rattle.std.proofs.Common.{◌≡◌, ℕ, suc, ◌<◌, ◌≤◌, Bool, true, false, ◌&&◌, List, [], ◌∷◌, length, get_or, refl, sym, ◌∙◌, subst, arith, Option, Some, None, inl, inr}
 use Rattle.std.proofs.lemmas.Bool.{cases_lt}
 use Rattle.k_model.proofs.Lists.{all_weaker}
 use Rattle.k_ids.specs.declared.calls.Phase.{Phase}
@@ -19,10 +19,10 @@ use Rattle.k_script.specs.Plays.{Position, phase_next, moved, next_of, went_on, 
 operation_turns : (table before : ℕ) (op : Operation) → IsOperation table before op → HasTurns op
 operation_turns table before (operation.Repeat count) h = h.0
 operation_turns table before operation.Again h = tt
-operation_turns table before (operation.Send to low high soon) h = tt
-operation_turns table before (operation.Receive from soon) h = tt
-operation_turns table before (operation.Call to low high soon) h = tt
-operation_turns table before (operation.Reply low high soon) h = tt
+operation_turns table before (operation.Send to low high zero) h = tt
+operation_turns table before (operation.Receive from zero) h = tt
+operation_turns table before (operation.Call to low high zero) h = tt
+operation_turns table before (operation.Reply low high zero) h = tt
 operation_turns table before (operation.Create program priority) h = tt
 operation_turns table before (operation.Destroy victim) h = tt
 operation_turns table before (operation.Work count) h = tt
@@ -39,8 +39,8 @@ none_nested = record { nested = refl; short = omega arith; counts = tt }
 
 pub past_nothing : (ps : List Program) (k : ℕ) → length ps ≤ k → get_or ps k nothing ≡ nothing
 past_nothing [] k h = refl
-past_nothing (p ∷ ps) zero h = absurd (omega arith)
 past_nothing (p ∷ ps) (suc k) h = past_nothing ps k (omega arith)
+past_nothing (p ∷ ps) k h = absurd (omega arith)
 
 pub script_nested : (s : Script) (program : ℕ) → IsScript s → IsNested (operations_of s program)
 script_nested s program h = elim (cases_lt program (length s.programs)) [
@@ -64,10 +64,10 @@ first_work : (version count : ℕ) (p : Position) (r : Registers) (op : Operatio
 first_work version count p r (operation.Work n) ops h = (refl, refl)
 first_work version count p r (operation.Repeat n) ops h = absurd cc
 first_work version count p r operation.Again ops h = absurd cc
-first_work version count p r (operation.Send to low high soon) ops h = absurd cc
-first_work version count p r (operation.Receive from soon) ops h = absurd cc
-first_work version count p r (operation.Call to low high soon) ops h = absurd cc
-first_work version count p r (operation.Reply low high soon) ops h = absurd cc
+first_work version count p r (operation.Send to low high zero) ops h = absurd cc
+first_work version count p r (operation.Receive from zero) ops h = absurd cc
+first_work version count p r (operation.Call to low high zero) ops h = absurd cc
+first_work version count p r (operation.Reply low high zero) ops h = absurd cc
 first_work version count p r (operation.Create program priority) ops h = absurd cc
 first_work version count p r (operation.Destroy victim) ops h = absurd cc
 
@@ -97,10 +97,10 @@ first_call : (version : ℕ) (r : Registers) (f : Phase) (op : Operation) (ops :
 first_call version r f (operation.Work n) ops h = absurd cc
 first_call version r f (operation.Repeat n) ops h = (phase_is _ f h, refl)
 first_call version r f operation.Again ops h = (phase_is _ f h, refl)
-first_call version r f (operation.Send to low high soon) ops h = (phase_is _ f h, refl)
-first_call version r f (operation.Receive from soon) ops h = (phase_is _ f h, refl)
-first_call version r f (operation.Call to low high soon) ops h = (phase_is _ f h, refl)
-first_call version r f (operation.Reply low high soon) ops h = (phase_is _ f h, refl)
+first_call version r f (operation.Send to low high zero) ops h = (phase_is _ f h, refl)
+first_call version r f (operation.Receive from zero) ops h = (phase_is _ f h, refl)
+first_call version r f (operation.Call to low high zero) ops h = (phase_is _ f h, refl)
+first_call version r f (operation.Reply low high zero) ops h = (phase_is _ f h, refl)
 first_call version r f (operation.Create program priority) ops h = (phase_is _ f h, refl)
 first_call version r f (operation.Destroy victim) ops h = (phase_is _ f h, refl)
 

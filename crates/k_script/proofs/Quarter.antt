@@ -23,10 +23,10 @@ abbrev Quarters : List ℕ → List ℕ → Type 0
 Quarters ts us = (k : ℕ) → 4 * slice_index ts k ≤ slice_index us k
 
 cost_quarter : (table : ℕ) (ts us : List ℕ) (op : Operation) → Quarters ts us → 4 * cost phase_scale ts op ≤ cost (weight_scale table) us op
-cost_quarter table ts us (operation.Send to low high soon) h = omega arith
-cost_quarter table ts us (operation.Receive from soon) h = omega arith
-cost_quarter table ts us (operation.Call to low high soon) h = omega arith
-cost_quarter table ts us (operation.Reply low high soon) h = omega arith
+cost_quarter table ts us (operation.Send to low high zero) h = omega arith
+cost_quarter table ts us (operation.Receive from zero) h = omega arith
+cost_quarter table ts us (operation.Call to low high zero) h = omega arith
+cost_quarter table ts us (operation.Reply low high zero) h = omega arith
 cost_quarter table ts us (operation.Create program priority) h = omega (arith, h program)
 cost_quarter table ts us (operation.Destroy victim) h = omega arith
 cost_quarter table ts us (operation.Work count) h = omega arith
@@ -54,10 +54,10 @@ multiplied_quarter count (t ∷ s ∷ ts) (u ∷ v ∷ us) q = (omega (arith, tu
 before_quarter : (table : ℕ) (xs ys : List ℕ) (op : Operation) (ts us : List ℕ) → Quarters xs ys → Quarter ts us → Quarter (totals_before phase_scale xs op ts) (totals_before (weight_scale table) ys op us)
 before_quarter table xs ys (operation.Repeat count) ts us h q = multiplied_quarter count ts us q
 before_quarter table xs ys operation.Again ts us h q = (omega arith, q)
-before_quarter table xs ys (operation.Send to low high soon) ts us h q = added_quarter _ _ ts us (cost_quarter table xs ys (operation.Send to low high soon) h) q
-before_quarter table xs ys (operation.Receive from soon) ts us h q = added_quarter _ _ ts us (cost_quarter table xs ys (operation.Receive from soon) h) q
-before_quarter table xs ys (operation.Call to low high soon) ts us h q = added_quarter _ _ ts us (cost_quarter table xs ys (operation.Call to low high soon) h) q
-before_quarter table xs ys (operation.Reply low high soon) ts us h q = added_quarter _ _ ts us (cost_quarter table xs ys (operation.Reply low high soon) h) q
+before_quarter table xs ys (operation.Send to low high zero) ts us h q = added_quarter _ _ ts us (cost_quarter table xs ys (operation.Send to low high zero) h) q
+before_quarter table xs ys (operation.Receive from zero) ts us h q = added_quarter _ _ ts us (cost_quarter table xs ys (operation.Receive from zero) h) q
+before_quarter table xs ys (operation.Call to low high zero) ts us h q = added_quarter _ _ ts us (cost_quarter table xs ys (operation.Call to low high zero) h) q
+before_quarter table xs ys (operation.Reply low high zero) ts us h q = added_quarter _ _ ts us (cost_quarter table xs ys (operation.Reply low high zero) h) q
 before_quarter table xs ys (operation.Create program priority) ts us h q = added_quarter _ _ ts us (cost_quarter table xs ys (operation.Create program priority) h) q
 before_quarter table xs ys (operation.Destroy victim) ts us h q = added_quarter _ _ ts us (cost_quarter table xs ys (operation.Destroy victim) h) q
 before_quarter table xs ys (operation.Work count) ts us h q = added_quarter _ _ ts us (cost_quarter table xs ys (operation.Work count) h) q

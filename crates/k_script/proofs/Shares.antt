@@ -1,5 +1,5 @@
 -- What a program counts is the sum over its operations written out, where the turns count nothing.
-use Rattle.std.proofs.Common.{◌≡◌, ℕ, zero, suc, ◌+◌, ◌*◌, ◌<◌, List, [], ◌∷◌, ◌++◌, map, length, get_or, slice_index, refl, sym, ap, ◌∙◌, subst, arith, length-append, add-zero}
+use Rattle.std.proofs.Common.{◌≡◌, ℕ, suc, ◌+◌, ◌*◌, ◌<◌, List, [], ◌∷◌, ◌++◌, map, length, get_or, slice_index, refl, sym, ap, ◌∙◌, subst, arith, length-append, add-zero}
 use Rattle.std.specs.List.{sum_by, repeat, AllByRecursion}
 use Rattle.std.proofs.lemmas.List.Sums.{sum_by-cons, sum_by-append}
 use Rattle.std.proofs.lemmas.List.{get_or_append_left}
@@ -17,8 +17,8 @@ use Rattle.k_script.specs.Plays.{phases_left, start_of}
 -- THE LEVELS' SUMS
 
 sum_repeat : {X : Type 0} (f : X → ℕ) (n : ℕ) (xs : List X) → sum_by f (repeat n xs) ≡ n * sum_by f xs
-sum_repeat f zero xs = omega arith
 sum_repeat f (suc n) xs = sum_by-append f xs (repeat n xs) ∙ ap (λ (k : ℕ). sum_by f xs + k) (sum_repeat f n xs) ∙ omega arith
+sum_repeat f n xs = omega arith
 
 sums_repeated : (s : Scale) (before : List ℕ) (count : ℕ) (ls : List (List Operation)) → s.turn ≡ 0 → multiplied s.turn count (map (sum_by (cost s before)) ls) ≡ map (sum_by (cost s before)) (repeated count ls)
 sums_repeated s before count [] e = refl
@@ -38,10 +38,10 @@ sums_front s before op (l ∷ ls) = ap (λ (k : ℕ). k ∷ map (sum_by (cost s 
 sums_before : (s : Scale) (before : List ℕ) (op : Operation) (ls : List (List Operation)) → s.turn ≡ 0 → totals_before s before op (map (sum_by (cost s before)) ls) ≡ map (sum_by (cost s before)) (levels_before op ls)
 sums_before s before (operation.Repeat count) ls e = sums_repeated s before count ls e
 sums_before s before operation.Again ls e = refl
-sums_before s before (operation.Send to low high soon) ls e = sums_front s before (operation.Send to low high soon) ls
-sums_before s before (operation.Receive from soon) ls e = sums_front s before (operation.Receive from soon) ls
-sums_before s before (operation.Call to low high soon) ls e = sums_front s before (operation.Call to low high soon) ls
-sums_before s before (operation.Reply low high soon) ls e = sums_front s before (operation.Reply low high soon) ls
+sums_before s before (operation.Send to low high zero) ls e = sums_front s before (operation.Send to low high zero) ls
+sums_before s before (operation.Receive from zero) ls e = sums_front s before (operation.Receive from zero) ls
+sums_before s before (operation.Call to low high zero) ls e = sums_front s before (operation.Call to low high zero) ls
+sums_before s before (operation.Reply low high zero) ls e = sums_front s before (operation.Reply low high zero) ls
 sums_before s before (operation.Create program priority) ls e = sums_front s before (operation.Create program priority) ls
 sums_before s before (operation.Destroy victim) ls e = sums_front s before (operation.Destroy victim) ls
 sums_before s before (operation.Work count) ls e = sums_front s before (operation.Work count) ls
@@ -61,10 +61,10 @@ flat_total s before ops e = ap first_total (sums_of s before ops e) ∙ first_su
 
 cost_same : (s : Scale) (table : ℕ) (before after : List ℕ) (op : Operation) → ((k : ℕ) → k < length before → slice_index before k ≡ slice_index after k) → IsOperation table (length before) op → cost s before op ≡ cost s after op
 cost_same s table before after (operation.Create program priority) same h = ap (λ (k : ℕ). s.call + k) (same program h.0)
-cost_same s table before after (operation.Send to low high soon) same h = refl
-cost_same s table before after (operation.Receive from soon) same h = refl
-cost_same s table before after (operation.Call to low high soon) same h = refl
-cost_same s table before after (operation.Reply low high soon) same h = refl
+cost_same s table before after (operation.Send to low high zero) same h = refl
+cost_same s table before after (operation.Receive from zero) same h = refl
+cost_same s table before after (operation.Call to low high zero) same h = refl
+cost_same s table before after (operation.Reply low high zero) same h = refl
 cost_same s table before after (operation.Destroy victim) same h = refl
 cost_same s table before after (operation.Work count) same h = refl
 cost_same s table before after (operation.Repeat count) same h = refl
@@ -72,10 +72,10 @@ cost_same s table before after operation.Again same h = refl
 
 before_same : (s : Scale) (before after : List ℕ) (op : Operation) (ts : List ℕ) → cost s before op ≡ cost s after op → totals_before s before op ts ≡ totals_before s after op ts
 before_same s before after (operation.Create program priority) ts e = ap (λ (k : ℕ). added k ts) e
-before_same s before after (operation.Send to low high soon) ts e = refl
-before_same s before after (operation.Receive from soon) ts e = refl
-before_same s before after (operation.Call to low high soon) ts e = refl
-before_same s before after (operation.Reply low high soon) ts e = refl
+before_same s before after (operation.Send to low high zero) ts e = refl
+before_same s before after (operation.Receive from zero) ts e = refl
+before_same s before after (operation.Call to low high zero) ts e = refl
+before_same s before after (operation.Reply low high zero) ts e = refl
 before_same s before after (operation.Destroy victim) ts e = refl
 before_same s before after (operation.Work count) ts e = refl
 before_same s before after (operation.Repeat count) ts e = refl
@@ -95,7 +95,14 @@ prefix_same s before (p ∷ ps) k l =
 
 entry_of : (s : Scale) (table n : ℕ) (before : List ℕ) (ps : List Program) (k : ℕ) → length before ≡ n → k < length ps → ((j : ℕ) → j < length ps → IsProgram table (n + j) (get_or ps j nothing)) → slice_index (program_totals s before ps) (n + k) ≡ program_total s (program_totals s before ps) (get_or ps k nothing).operations
 entry_of s table n before [] k size inside all = absurd (omega arith)
-entry_of s table n before (p ∷ ps) zero size inside all =
+entry_of s table n before (p ∷ ps) (suc k) size inside all =
+    let push : List ℕ = before ++ program_total s before p.operations ∷ [] in
+    let next : n + suc k ≡ (n + 1) + k = omega arith in
+    let longer : length push ≡ n + 1 = omega (arith, length-append before (program_total s before p.operations ∷ [])) in
+    ap (slice_index (program_totals s push ps)) next
+    ∙ entry_of s table (n + 1) push ps k longer (omega arith)
+    (λ j l. let shift : n + suc j ≡ (n + 1) + j = omega arith in subst (λ (i : ℕ). IsProgram table i (get_or ps j nothing)) shift (all (suc j) (omega arith)))
+entry_of s table n before (p ∷ ps) k size inside all =
     let here : n + 0 ≡ length before = omega arith in
     let push : List ℕ = before ++ program_total s before p.operations ∷ [] in
     let wide : length before < length push = omega (arith, length-append before (program_total s before p.operations ∷ [])) in
@@ -106,13 +113,6 @@ entry_of s table n before (p ∷ ps) zero size inside all =
     ∙ sym (prefix_same s push ps (length before) wide)
     ∙ get_or-append_seam before (program_total s before p.operations) [] 0
     ∙ ap (λ (ts : List ℕ). first_total ts + s.ending) ops
-entry_of s table n before (p ∷ ps) (suc k) size inside all =
-    let push : List ℕ = before ++ program_total s before p.operations ∷ [] in
-    let next : n + suc k ≡ (n + 1) + k = omega arith in
-    let longer : length push ≡ n + 1 = omega (arith, length-append before (program_total s before p.operations ∷ [])) in
-    ap (slice_index (program_totals s push ps)) next
-    ∙ entry_of s table (n + 1) push ps k longer (omega arith)
-    (λ j l. let shift : n + suc j ≡ (n + 1) + j = omega arith in subst (λ (i : ℕ). IsProgram table i (get_or ps j nothing)) shift (all (suc j) (omega arith)))
 
 -- So a thread's first phases are those that its program counts.
 pub start_counts : (script : Script) (program : ℕ) (id : ThreadId) → IsScript script → program < length script.programs → phases_left script (start_of script program id) ≡ phases_of_program script program

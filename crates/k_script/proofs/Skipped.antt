@@ -25,10 +25,10 @@ some_front op ls h = omega (arith, length_in_front op ls)
 some_before : (op : Operation) (ls : List (List Operation)) → 1 ≤ length ls → 1 ≤ length (levels_before op ls)
 some_before (operation.Repeat count) ls h = some_repeated count ls h
 some_before operation.Again ls h = omega arith
-some_before (operation.Send to low high soon) ls h = some_front (operation.Send to low high soon) ls h
-some_before (operation.Receive from soon) ls h = some_front (operation.Receive from soon) ls h
-some_before (operation.Call to low high soon) ls h = some_front (operation.Call to low high soon) ls h
-some_before (operation.Reply low high soon) ls h = some_front (operation.Reply low high soon) ls h
+some_before (operation.Send to low high zero) ls h = some_front (operation.Send to low high zero) ls h
+some_before (operation.Receive from zero) ls h = some_front (operation.Receive from zero) ls h
+some_before (operation.Call to low high zero) ls h = some_front (operation.Call to low high zero) ls h
+some_before (operation.Reply low high zero) ls h = some_front (operation.Reply low high zero) ls h
 some_before (operation.Create program priority) ls h = some_front (operation.Create program priority) ls h
 some_before (operation.Destroy victim) ls h = some_front (operation.Destroy victim) ls h
 some_before (operation.Work count) ls h = some_front (operation.Work count) ls h
@@ -71,17 +71,6 @@ over_empty ops place count end skip opens within ends behind = record {
       ∙ ap (repeated count) (within.same more)
       ∙ sym (levels_at ops more place (operation.Repeat count) opens);
 }
-
--- ONE SKIP of the places' more
-pub skips_set : (ops : List Operation) (skips : List ℕ) (place skip : ℕ) → AreSkips ops skips → place < length skips → IsSkip ops place skip → AreSkips ops (set skips place skip)
-skips_set ops skips place skip are inside is k below = elim (cases_eq k place) [
-  | inl e ↦
-      let there : skip_in (set skips place skip) k ≡ skip = ap (λ (i : ℕ). get_or (set skips place skip) i k) e ∙ get_or-set_same skips place skip k inside in
-      subst (IsSkip ops k) (sym there) (subst (λ (i : ℕ). IsSkip ops i skip) (sym e) is)
-  | inr n ↦
-      let there : skip_in (set skips place skip) k ≡ skip_in skips k = get_or-set_other skips place k skip k n in
-      subst (IsSkip ops k) (sym there) (are k (omega (arith, length-set skips place skip)))
-]
 
 -- IN BETWEEN two operations a skip is one of the markers passed
 

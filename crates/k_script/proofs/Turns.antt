@@ -1,5 +1,5 @@
 -- What is left of a program stays the same over its repeats and agains.
-use Rattle.std.proofs.Common.{◌≡◌, ℕ, zero, suc, ◌+◌, ◌-◌, ◌*◌, ◌<◌, ◌≤◌, ◌==◌, false, List, [], ◌∷◌, ◌++◌, length, drop, refl, sym, ap, ◌∙◌, subst, arith, Some, None, slice_get, get_or, inl, inr, append_assoc, add-one}
+use Rattle.std.proofs.Common.{◌≡◌, ℕ, suc, ◌+◌, ◌-◌, ◌*◌, ◌<◌, ◌≤◌, ◌==◌, false, List, [], ◌∷◌, ◌++◌, length, drop, refl, sym, ap, ◌∙◌, subst, arith, Some, None, slice_get, get_or, inl, inr, append_assoc, add-one}
 use Rattle.std.specs.List.{repeat, AllByRecursion}
 use Rattle.std.proofs.lemmas.Bool.{cases_Bool}
 use Rattle.std.proofs.lemmas.Option.{slice_get_cases}
@@ -43,43 +43,43 @@ turns_more ops a b c d (l ∷ m ∷ n ∷ o ∷ p ∷ ls) h t = absurd (omega ar
 -- THE REPEATS THAT WERE ENTERED since the last operation: the whole body of such a one is still to be done, given what is to
 -- be done before of the repeats within it.
 abbrev pub Entered : List Operation → ℕ → List Operation → List Turn → List (List Operation) → Type 0
-Entered ops zero done ts ls = Unit {0}
 Entered ops (suc n) done [] ls = ⊥
 Entered ops (suc n) done (t ∷ ts) [] = ⊥
 Entered ops (suc n) done (t ∷ ts) (l ∷ []) = ⊥
 Entered ops (suc n) done (t ∷ ts) (l ∷ m ∷ ls) = (flat (drop t.body ops) ≡ done ++ l) × Entered ops n ((done ++ l) ++ still_to_come ops t) ts (m ∷ ls)
+Entered ops n done ts ls = Unit {0}
 
 entered_below : (ops : List Operation) (n : ℕ) (done : List Operation) (ts : List Turn) (ls : List (List Operation)) → 1 ≤ length ls → Entered ops n done ts ls → n + 1 ≤ length ls
-entered_below ops zero done ts ls some h = omega arith
 entered_below ops (suc n) done [] ls some h = absurd h
 entered_below ops (suc n) done (t ∷ ts) [] some h = absurd h
 entered_below ops (suc n) done (t ∷ ts) (l ∷ []) some h = absurd h
 entered_below ops (suc n) done (t ∷ ts) (l ∷ m ∷ ls) some h = omega (arith, entered_below ops n ((done ++ l) ++ still_to_come ops t) ts (m ∷ ls) (omega arith) h.1)
+entered_below ops n done ts ls some h = omega arith
 
 entered_more : (ops : List Operation) (n : ℕ) (done : List Operation) (ts : List Turn) (x : Turn) (ls : List (List Operation)) → Entered ops n done ts ls → Entered ops n done (ts ++ x ∷ []) ls
-entered_more ops zero done ts x ls h = tt
 entered_more ops (suc n) done [] x ls h = absurd h
 entered_more ops (suc n) done (t ∷ ts) x [] h = absurd h
 entered_more ops (suc n) done (t ∷ ts) x (l ∷ []) h = absurd h
 entered_more ops (suc n) done (t ∷ ts) x (l ∷ m ∷ ls) h = (h.0, entered_more ops n ((done ++ l) ++ still_to_come ops t) ts x (m ∷ ls) h.1)
+entered_more ops n done ts x ls h = tt
 
 entered_fewer : (ops : List Operation) (n : ℕ) (done : List Operation) (ts : List Turn) (x : Turn) (ls : List (List Operation)) → length ls ≤ length ts + 1 → Entered ops n done (ts ++ x ∷ []) ls → Entered ops n done ts ls
-entered_fewer ops zero done ts x ls few h = tt
 entered_fewer ops (suc n) done [] x [] few h = absurd h
 entered_fewer ops (suc n) done [] x (l ∷ []) few h = absurd h
 entered_fewer ops (suc n) done [] x (l ∷ m ∷ ls) few h = absurd (omega arith)
 entered_fewer ops (suc n) done (t ∷ ts) x [] few h = absurd h
 entered_fewer ops (suc n) done (t ∷ ts) x (l ∷ []) few h = absurd h
 entered_fewer ops (suc n) done (t ∷ ts) x (l ∷ m ∷ ls) few h = (h.0, entered_fewer ops n ((done ++ l) ++ still_to_come ops t) ts x (m ∷ ls) (omega arith) h.1)
+entered_fewer ops n done ts x ls few h = tt
 
 -- what is done first may stand on either side
 entered_front : (ops : List Operation) (n : ℕ) (done x : List Operation) (ts : List Turn) (l : List Operation) (ls : List (List Operation)) → Entered ops n done ts ((x ++ l) ∷ ls) → Entered ops n (done ++ x) ts (l ∷ ls)
-entered_front ops zero done x ts l ls h = tt
 entered_front ops (suc n) done x [] l ls h = absurd h
 entered_front ops (suc n) done x (t ∷ ts) l [] h = absurd h
 entered_front ops (suc n) done x (t ∷ ts) l (m ∷ ls) h =
     let e : done ++ (x ++ l) ≡ (done ++ x) ++ l = sym (append_assoc done x l) in
     (h.0 ∙ e, subst (λ (d : List Operation). Entered ops n (d ++ still_to_come ops t) ts (m ∷ ls)) e h.1)
+entered_front ops n done x ts l ls h = tt
 
 -- INTO A REPEAT
 
@@ -125,8 +125,8 @@ enters ops a b c d t n left (l ∷ m ∷ ls) e k some few turns entered =
 -- OUT OF A REPEAT of which nothing is still to come
 
 pub repeat_nil : (n : ℕ) → repeat {A = Operation} n [] ≡ []
-repeat_nil zero = refl
 repeat_nil (suc n) = repeat_nil n
+repeat_nil n = refl
 
 pub record Leaves (ops : List Operation) (a b c d x : Turn) (n : ℕ) (ls : List (List Operation)) : Type 0 where
   pub same : joined ops (a ∷ b ∷ c ∷ d ∷ []) ([] ∷ ls) ≡ joined ops (b ∷ c ∷ d ∷ x ∷ []) ls
@@ -180,9 +180,6 @@ pub record Passes (ops : List Operation) (old new : Cursor) (n : ℕ) : Type 0 w
   pub placed : IsCursor ops new
   pub entered : Entered ops n [] (open_turns new) (levels (drop new.at ops))
 
-pub passes_none : (ops : List Operation) (c : Cursor) → IsCursor ops c → Passes ops c c 0
-passes_none ops c h = record { same = refl; placed = h; entered = tt }
-
 pub passes_few : (ops : List Operation) (old new : Cursor) (n : ℕ) → IsNested ops → Passes ops old new n → (n + 1 ≤ length (levels (drop new.at ops))) × (length (levels (drop new.at ops)) ≤ 5)
 passes_few ops old new n nested p =
     let few = levels_few ops new.at nested.nested in
@@ -218,7 +215,6 @@ abbrev entering : Cursor → ℕ → Cursor
 entering c left = record { at = c.at + 1; first = record { body = c.at + 1; left = left }; second = c.first; third = c.second; fourth = c.third }
 
 pub passes_into : (ops : List Operation) (old c : Cursor) (count n : ℕ) → IsNested ops → Passes ops old c n → slice_get ops c.at ≡ Some (operation.Repeat count) → Passes ops old (into_repeat c count) (n + 1) × (ahead ops (into_repeat c count) (n + 1) < ahead ops c n)
-passes_into ops old c zero n nested p found = absurd (omega (arith, has_turns ops c.at 0 nested.counts found))
 passes_into ops old c (suc left) n nested p found =
     let e = drop_some ops c.at (operation.Repeat (suc left)) found in
     let ls = levels (drop (c.at + 1) ops) in
@@ -239,6 +235,7 @@ passes_into ops old c (suc left) n nested p found =
       },
       omega (arith, step.fewer, size, inside.0, nested.short, below),
     )
+passes_into ops old c count n nested p found = absurd (omega (arith, has_turns ops c.at 0 nested.counts found))
 
 pub passes_again : (ops : List Operation) (old c : Cursor) (n : ℕ) → IsNested ops → Passes ops old c n → slice_get ops c.at ≡ Some operation.Again → Passes ops old (at_again c n) (entered_then c n) × (ahead ops (at_again c n) (entered_then c n) < ahead ops c n)
 passes_again ops old c n nested p found = go n p
@@ -288,7 +285,7 @@ passes_again ops old c n nested p found = go n p
     go (suc m) q =
         let n = nothing_in ops c.first c.second c.third c.fourth m (levels (drop (c.at + 1) ops)) some (subst (Entered ops (suc m) [] (open_turns c)) whole q.entered) in
         out m (suc m) q (omega arith) n.0 n.1 (omega arith)
-    go zero q = elim (cases_Bool (c.first.left == 0)) [
+    go m q = elim (cases_Bool (c.first.left == 0)) [
       | inl t ↦ rw t (out 0 0 q (omega arith) (ap (λ (i : ℕ). repeat i (flat (drop c.first.body ops))) (eqb-true c.first.left 0 t)) tt (omega arith))
       | inr f ↦ rw f (back q f)
     ]
@@ -297,10 +294,10 @@ passes_again ops old c n nested p found = go n p
 pub plain_front : (op : Operation) (ls : List (List Operation)) → is_marker op ≡ false → levels_before op ls ≡ in_front op ls
 plain_front (operation.Repeat count) ls h = absurd cc
 plain_front operation.Again ls h = absurd cc
-plain_front (operation.Send to low high soon) ls h = refl
-plain_front (operation.Receive from soon) ls h = refl
-plain_front (operation.Call to low high soon) ls h = refl
-plain_front (operation.Reply low high soon) ls h = refl
+plain_front (operation.Send to low high zero) ls h = refl
+plain_front (operation.Receive from zero) ls h = refl
+plain_front (operation.Call to low high zero) ls h = refl
+plain_front (operation.Reply low high zero) ls h = refl
 plain_front (operation.Create program priority) ls h = refl
 plain_front (operation.Destroy victim) ls h = refl
 plain_front (operation.Work count) ls h = refl
@@ -346,10 +343,10 @@ at_start ops c start nested =
 pub plain_op : (op : Operation) → ((count : ℕ) → op ≡ operation.Repeat count → ⊥) → (op ≡ operation.Again → ⊥) → is_marker op ≡ false
 plain_op (operation.Repeat count) f g = absurd (f count refl)
 plain_op operation.Again f g = absurd (g refl)
-plain_op (operation.Send to low high soon) f g = refl
-plain_op (operation.Receive from soon) f g = refl
-plain_op (operation.Call to low high soon) f g = refl
-plain_op (operation.Reply low high soon) f g = refl
+plain_op (operation.Send to low high zero) f g = refl
+plain_op (operation.Receive from zero) f g = refl
+plain_op (operation.Call to low high zero) f g = refl
+plain_op (operation.Reply low high zero) f g = refl
 plain_op (operation.Create program priority) f g = refl
 plain_op (operation.Destroy victim) f g = refl
 plain_op (operation.Work count) f g = refl

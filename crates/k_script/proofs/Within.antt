@@ -1,5 +1,5 @@
 -- The calls of a script name numbers of its table, where the replies do.
-use Rattle.std.proofs.Common.{◌≡◌, ℕ, zero, suc, ◌≤◌, ◌==◌, ◌&&◌, Bool, true, false, List, [], ◌∷◌, ◌++◌, length, refl, sym, subst, arith, Option, Some, None, inl, inr}
+use Rattle.std.proofs.Common.{◌≡◌, ℕ, suc, ◌≤◌, ◌==◌, ◌&&◌, Bool, true, false, List, [], ◌∷◌, ◌++◌, length, refl, sym, subst, arith, Option, Some, None, inl, inr}
 use Rattle.std.specs.List.{repeat, AllByRecursion}
 use Rattle.std.proofs.lemmas.Bool.{cases_Bool, cases_lt}
 use Rattle.k_model.proofs.Lists.{all_weaker}
@@ -26,8 +26,8 @@ all_append P [] ys h g = g
 all_append P (x ∷ xs) ys h g = (h.0, all_append P xs ys h.1 g)
 
 pub all_repeat : {X : Type 0} (P : X → Type 0) (n : ℕ) (xs : List X) → AllByRecursion P xs → AllByRecursion P (repeat n xs)
-all_repeat P zero xs h = tt
 all_repeat P (suc n) xs h = all_append P xs (repeat n xs) h (all_repeat P n xs h)
+all_repeat P n xs h = tt
 
 abbrev AllIn : (Operation → Type 0) → List (List Operation) → Type 0
 AllIn P ls = AllByRecursion (λ l. AllByRecursion P l) ls
@@ -44,10 +44,10 @@ all_repeated P count (l ∷ m ∷ ls) a = (all_append P (repeat count l) m (all_
 all_before : (P : Operation → Type 0) (op : Operation) (ls : List (List Operation)) → P op → AllIn P ls → AllIn P (levels_before op ls)
 all_before P (operation.Repeat count) ls h a = all_repeated P count ls a
 all_before P operation.Again ls h a = (tt, a)
-all_before P (operation.Send to low high soon) ls h a = all_front P (operation.Send to low high soon) ls h a
-all_before P (operation.Receive from soon) ls h a = all_front P (operation.Receive from soon) ls h a
-all_before P (operation.Call to low high soon) ls h a = all_front P (operation.Call to low high soon) ls h a
-all_before P (operation.Reply low high soon) ls h a = all_front P (operation.Reply low high soon) ls h a
+all_before P (operation.Send to low high zero) ls h a = all_front P (operation.Send to low high zero) ls h a
+all_before P (operation.Receive from zero) ls h a = all_front P (operation.Receive from zero) ls h a
+all_before P (operation.Call to low high zero) ls h a = all_front P (operation.Call to low high zero) ls h a
+all_before P (operation.Reply low high zero) ls h a = all_front P (operation.Reply low high zero) ls h a
 all_before P (operation.Create program priority) ls h a = all_front P (operation.Create program priority) ls h a
 all_before P (operation.Destroy victim) ls h a = all_front P (operation.Destroy victim) ls h a
 all_before P (operation.Work count) ls h a = all_front P (operation.Work count) ls h a
@@ -67,11 +67,11 @@ all_flat P ops h = all_first P (levels ops) (all_levels P ops h)
 
 more_programs : (table before programs : ℕ) (op : Operation) → before ≤ programs → IsOperation table before op → IsOperation table programs op
 more_programs table before programs (operation.Create program priority) few h = (omega (arith, h.0), h.1)
-more_programs table before programs (operation.Send to low high soon) few h = h
-more_programs table before programs (operation.Receive (Some from) soon) few h = h
-more_programs table before programs (operation.Receive None soon) few h = h
-more_programs table before programs (operation.Call to low high soon) few h = h
-more_programs table before programs (operation.Reply low high soon) few h = h
+more_programs table before programs (operation.Send to low high zero) few h = h
+more_programs table before programs (operation.Receive (Some from) zero) few h = h
+more_programs table before programs (operation.Receive None zero) few h = h
+more_programs table before programs (operation.Call to low high zero) few h = h
+more_programs table before programs (operation.Reply low high zero) few h = h
 more_programs table before programs (operation.Destroy victim) few h = h
 more_programs table before programs (operation.Work count) few h = h
 more_programs table before programs (operation.Repeat count) few h = h
@@ -109,16 +109,16 @@ who_within table r (who.Number n) a h = record { number = h; first = omega arith
 who_within table r who.Last a h = a.last
 who_within table r who.Made a h = a.created
 
-reply_within : (script : Script) (version : ℕ) (to : ThreadId) (message : Message) (soon two : Bool) → (version == 2) ≡ two → IsInRange script.table to → NamesInRange script (reply_phase version to message soon)
-reply_within script version to message soon true e h = rw e h
-reply_within script version to message soon false e h = rw e h
+reply_within : (script : Script) (version : ℕ) (to : ThreadId) (message : Message) (zero two : Bool) → (version == 2) ≡ two → IsInRange script.table to → NamesInRange script (reply_phase version to message zero)
+reply_within script version to message zero true e h = rw e h
+reply_within script version to message zero false e h = rw e h
 
 phase_within : (script : Script) (version : ℕ) (r : Registers) (op : Operation) → AreInRange script.table r → IsOperation script.table (length script.programs) op → NamesInRange script (phase_of version r op)
-phase_within script version r (operation.Send to low high soon) a h = who_within script.table r to a h.0
-phase_within script version r (operation.Receive (Some from) soon) a h = who_within script.table r from a h
-phase_within script version r (operation.Receive None soon) a h = tt
-phase_within script version r (operation.Call to low high soon) a h = who_within script.table r to a h.0
-phase_within script version r (operation.Reply low high soon) a h = reply_within script version r.last _ soon (version == 2) refl a.last
+phase_within script version r (operation.Send to low high zero) a h = who_within script.table r to a h.0
+phase_within script version r (operation.Receive (Some from) zero) a h = who_within script.table r from a h
+phase_within script version r (operation.Receive None zero) a h = tt
+phase_within script version r (operation.Call to low high zero) a h = who_within script.table r to a h.0
+phase_within script version r (operation.Reply low high zero) a h = reply_within script version r.last _ zero (version == 2) refl a.last
 phase_within script version r (operation.Create program priority) a h = h
 phase_within script version r (operation.Destroy victim) a h = who_within script.table r victim a h
 phase_within script version r (operation.Work count) a h = tt
@@ -128,10 +128,10 @@ phase_within script version r operation.Again a h = tt
 work_within : (P : Operation → Type 0) (ops : List Operation) → AllByRecursion P ops → AllByRecursion P (after_work ops)
 work_within P [] h = tt
 work_within P (operation.Work count ∷ ops) h = work_within P ops h.1
-work_within P (operation.Send to low high soon ∷ ops) h = h
-work_within P (operation.Receive from soon ∷ ops) h = h
-work_within P (operation.Call to low high soon ∷ ops) h = h
-work_within P (operation.Reply low high soon ∷ ops) h = h
+work_within P (operation.Send to low high zero ∷ ops) h = h
+work_within P (operation.Receive from zero ∷ ops) h = h
+work_within P (operation.Call to low high zero ∷ ops) h = h
+work_within P (operation.Reply low high zero ∷ ops) h = h
 work_within P (operation.Create program priority ∷ ops) h = h
 work_within P (operation.Destroy victim ∷ ops) h = h
 work_within P (operation.Repeat count ∷ ops) h = h
@@ -165,10 +165,10 @@ work_count : (script : Script) (version count : ℕ) (r : Registers) (op : Opera
 work_count script version count r (operation.Work n) h e = let same : n ≡ count = cc in subst (λ (k : ℕ). (1 ≤ k) × (k ≤ 4294967295)) same h
 work_count script version count r (operation.Repeat n) h e = absurd cc
 work_count script version count r operation.Again h e = absurd cc
-work_count script version count r (operation.Send to low high soon) h e = absurd cc
-work_count script version count r (operation.Receive from soon) h e = absurd cc
-work_count script version count r (operation.Call to low high soon) h e = absurd cc
-work_count script version count r (operation.Reply low high soon) h e = absurd cc
+work_count script version count r (operation.Send to low high zero) h e = absurd cc
+work_count script version count r (operation.Receive from zero) h e = absurd cc
+work_count script version count r (operation.Call to low high zero) h e = absurd cc
+work_count script version count r (operation.Reply low high zero) h e = absurd cc
 work_count script version count r (operation.Create program priority) h e = absurd cc
 work_count script version count r (operation.Destroy victim) h e = absurd cc
 

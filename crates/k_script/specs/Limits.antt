@@ -39,11 +39,11 @@ IsValue value.Got1 = Unit {0}
 
 -- An operation of a program before which so many programs stand: a create names one of these.
 abbrev pub IsOperation : ℕ → ℕ → Operation → Type 0
-IsOperation table before (operation.Send to low high soon) = IsWho table to × IsValue low × IsValue high
-IsOperation table before (operation.Receive (Some from) soon) = IsWho table from
-IsOperation table before (operation.Receive None soon) = Unit {0}
-IsOperation table before (operation.Call to low high soon) = IsWho table to × IsValue low × IsValue high
-IsOperation table before (operation.Reply low high soon) = IsValue low × IsValue high
+IsOperation table before (operation.Send to low high zero) = IsWho table to × IsValue low × IsValue high
+IsOperation table before (operation.Receive (Some from) zero) = IsWho table from
+IsOperation table before (operation.Receive None zero) = Unit {0}
+IsOperation table before (operation.Call to low high zero) = IsWho table to × IsValue low × IsValue high
+IsOperation table before (operation.Reply low high zero) = IsValue low × IsValue high
 IsOperation table before (operation.Create program priority) = (program < before) × (priority ≤ 63)
 IsOperation table before (operation.Destroy victim) = IsWho table victim
 IsOperation table before (operation.Work count) = (1 ≤ count) × (count ≤ 4294967295)

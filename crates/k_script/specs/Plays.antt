@@ -15,7 +15,7 @@ use Rattle.k_ids.specs.declared.calls.Outcome.TheVariants as outcome
 use Rattle.k_ids.specs.declared.histories.Entry.{Entry}
 use Rattle.k_model.specs.State.{KernelState, same_id}
 use Rattle.k_model.specs.History.{IsReplay, IsFinished, calls_of, opened}
-use Rattle.k_model.specs.Answers.{reply_to}
+use Rattle.k_model.specs.Answered.{reply_to}
 use Rattle.k_script.specs.declared.operation.Who.{Who}
 use Rattle.k_script.specs.declared.operation.Who.TheVariants as who
 use Rattle.k_script.specs.declared.operation.Value.{Value}
@@ -70,7 +70,7 @@ abbrev pub open_receive : Operation
 open_receive = operation.Receive None false
 
 abbrev pub is_reply : Operation → Bool
-is_reply (operation.Reply low high soon) = true
+is_reply (operation.Reply low high zero) = true
 is_reply other = false
 
 -- what is to be done next, given the reply to the last phase
@@ -85,14 +85,14 @@ after_work (op ∷ ops) = op ∷ ops
 
 -- In version 1 of the script a reply is a send. In version 2 it is a call of its own.
 abbrev pub reply_phase : ℕ → ThreadId → Message → Bool → Phase
-reply_phase version to message soon = if version == 2 then phase.Reply to message soon else phase.Send to message soon false
+reply_phase version to message zero = if version == 2 then phase.Reply to message zero else phase.Send to message zero false
 
 -- (Work, a repeat and an again have no phase.)
 abbrev pub phase_of : ℕ → Registers → Operation → Phase
-phase_of version r (operation.Send to low high soon) = phase.Send (id_of r to) (message_of r low high) soon false
-phase_of version r (operation.Receive from soon) = phase.Receive (option_map (id_of r) from) soon
-phase_of version r (operation.Call to low high soon) = phase.Send (id_of r to) (message_of r low high) soon true
-phase_of version r (operation.Reply low high soon) = reply_phase version r.last (message_of r low high) soon
+phase_of version r (operation.Send to low high zero) = phase.Send (id_of r to) (message_of r low high) zero false
+phase_of version r (operation.Receive from zero) = phase.Receive (option_map (id_of r) from) zero
+phase_of version r (operation.Call to low high zero) = phase.Send (id_of r to) (message_of r low high) zero true
+phase_of version r (operation.Reply low high zero) = reply_phase version r.last (message_of r low high) zero
 phase_of version r (operation.Create program priority) = phase.Create program priority
 phase_of version r (operation.Destroy victim) = phase.Destroy (id_of r victim)
 phase_of version r (operation.Work count) = phase.End
@@ -259,12 +259,12 @@ TellsInRange table (Some (reply.Made id)) = IsInRange table id
 TellsInRange table other = Unit {0}
 
 abbrev pub NamesInRange : Script → Phase → Type 0
-NamesInRange script (phase.Send to message soon joined) = IsInRange script.table to
-NamesInRange script (phase.Receive (Some from) soon) = IsInRange script.table from
-NamesInRange script (phase.Receive None soon) = Unit {0}
+NamesInRange script (phase.Send to message zero joined) = IsInRange script.table to
+NamesInRange script (phase.Receive (Some from) zero) = IsInRange script.table from
+NamesInRange script (phase.Receive None zero) = Unit {0}
 NamesInRange script (phase.Create program priority) = (program < length script.programs) × (priority ≤ 63)
 NamesInRange script (phase.Destroy victim) = IsInRange script.table victim
-NamesInRange script (phase.Reply to message soon) = IsInRange script.table to
+NamesInRange script (phase.Reply to message zero) = IsInRange script.table to
 NamesInRange script phase.End = Unit {0}
 
 abbrev pub AllLeft : Script → Option (List Operation) → Type 0

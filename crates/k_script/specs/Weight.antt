@@ -18,10 +18,10 @@ phase_scale = record { call = 1; reply = 2; destroy = 1; load = 0; turn = 0; end
 
 -- ONE OPERATION, given the totals of the programs before: a create counts its program too.
 abbrev pub cost : Scale → List ℕ → Operation → ℕ
-cost s before (operation.Send to low high soon) = s.call
-cost s before (operation.Receive from soon) = s.call
-cost s before (operation.Call to low high soon) = s.call
-cost s before (operation.Reply low high soon) = s.reply
+cost s before (operation.Send to low high zero) = s.call
+cost s before (operation.Receive from zero) = s.call
+cost s before (operation.Call to low high zero) = s.call
+cost s before (operation.Reply low high zero) = s.reply
 cost s before (operation.Create program priority) = s.call + slice_index before program
 cost s before (operation.Destroy victim) = s.destroy
 cost s before (operation.Work count) = s.load * count

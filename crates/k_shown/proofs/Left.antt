@@ -16,7 +16,7 @@ use Rattle.k_senders.specs.Entries.{number_of}
 use Rattle.k_senders.specs.Queue.{Queue, without}
 use Rattle.k_ready.specs.Lists.{list_of, with_list}
 use Rattle.k_locks.specs.Shown.{shows}
-use Rattle.k_model.specs.Answers.{reply_to}
+use Rattle.k_model.specs.Answered.{reply_to}
 use Rattle.k_model.specs.State.{is_present, is_run, same_id}
 use Rattle.k_lists.proofs.All.{all_weaker}
 use Rattle.k_shown.specs.Memory.{Memory, table, waiting, waiting_of}

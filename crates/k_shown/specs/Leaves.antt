@@ -22,7 +22,7 @@ use Rattle.k_ids.specs.declared.state_word.StateWord.{StateWord}
 use Rattle.k_ids.specs.declared.threads.Message.{Message}
 use Rattle.k_ready.specs.Lists.{list_of}
 use Rattle.k_locks.specs.Shown.{shows}
-use Rattle.k_model.specs.Answers.{reply_to}
+use Rattle.k_model.specs.Answered.{reply_to}
 use Rattle.k_model.specs.State.{is_dead, is_present, is_run, same_id}
 use Rattle.k_shown.specs.Words.{new_word, on_with}
 use Rattle.k_shown.specs.Memory.{Memory, table, waiting}

@@ -21,6 +21,3 @@ pub use laws::a_number_is_spelled;
 pub use line::Line;
 pub use numbers::{read_byte, read_number};
 pub use printed::{Printed, put_each, put_line};
-
-#[cfg(test)]
-mod tests;

@@ -1,8 +1,6 @@
 use crate::text_of;
 use k_reader::read;
 use k_script::big;
-use std::alloc::Global;
-use std::process::Abort;
 use std::test::Fail;
 
 // Every kind of line, with whatever a text may have and need not.
@@ -77,28 +75,12 @@ at 0 start 1
 at 7 slice 1
 turns 0*5 1! 1*10 0!";
 
-fn writes(rt: &impl Abort, alloc: Global, said: &str, written: &str) -> Result<(), Fail> {
-    let script = read(alloc, said.as_bytes())?;
-    let text = text_of(alloc, &script)?;
-    assert_eq!(rt; text.as_slice(), written.as_bytes());
-    Ok(())
-}
-
 #[test]
 fn every_kind_of_line_is_written(rt: HostRuntime) -> Result<(), Fail> {
-    writes(&rt, rt.alloc(), SAID, WRITTEN)
-}
-
-#[test]
-fn what_is_written_is_written_again(rt: HostRuntime) -> Result<(), Fail> {
-    writes(&rt, rt.alloc(), WRITTEN, WRITTEN)
-}
-
-#[test]
-fn the_smallest_script_has_four_kinds_of_lines(rt: HostRuntime) -> Result<(), Fail> {
-    let said = "kernel 1\ntable 1\ncarriers 1\nprogram a\nend\nthread 0 a\n";
-    let written = "kernel 1\ntable 1\nprogram a\nend\nthread 0 a";
-    writes(&rt, rt.alloc(), said, written)
+    let script = read(rt.alloc(), SAID.as_bytes())?;
+    let text = text_of(rt.alloc(), &script)?;
+    assert_eq!(rt; text.as_slice(), WRITTEN.as_bytes());
+    Ok(())
 }
 
 // The first and the last bytes, and how many there are, from a transcription of the generator in another language.

@@ -7,7 +7,7 @@ use Rattle.k_model.proofs.Listed.{opened-listed}
 use Rattle.k_model.proofs.Ranged.{opened-ranged}
 use Rattle.std.proofs.lemmas.List.Elements.{recursion_from_All}
 use Rattle.k_model.specs.History.{opened}
-use Rattle.k_model.specs.Answers.{IsAnswered}
+use Rattle.k_model.specs.Answered.{IsAnswered}
 use Rattle.k_model.proofs.Answered.{opened-answered}
 use Rattle.k_model.proofs.Opening.{opened-sound}
 use Rattle.k_machine.specs.Machine.{state_of}

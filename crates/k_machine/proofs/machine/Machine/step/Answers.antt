@@ -7,7 +7,7 @@ use Rattle.k_model.specs.Ranges.{IsRanged}
 use Rattle.k_model.proofs.Listed.{acted-listed}
 use Rattle.k_model.proofs.Ranged.{acted-ranged}
 use Rattle.k_model.proofs.Sound.{acts_free, has_room, senders_inside, size-acted, acted-sound}
-use Rattle.k_model.specs.Answers.{IsAnswered}
+use Rattle.k_model.specs.Answered.{IsAnswered}
 use Rattle.k_model.proofs.Answered.{acted-answered}
 use Rattle.k_machine.specs.Machine.{Running, state_of}
 use Rattle.k_machine.proofs.machine.Machine.step.Goals as goal

@@ -1,0 +1,75 @@
+// From the arguments of the command line to a call.
+ghost use Rattle.std.specs.Prelude.{◌≡◌, ◌≢◌, ◌≤◌, ◌⊎◌, drop, map, string_bytes, Err, Some, IfErr, IfOk, MatchResult};
+ghost use Rattle.std.specs.IoError.{error_kind};
+ghost use Rattle.std.specs.declared.io.ErrorKind.TheVariants.{OutOfMemory};
+ghost use Rattle.std.specs.Vec.Iter.{into_iter_items};
+ghost use Rattle.k_outside.specs.Outside.{Rose};
+ghost use Rattle.fiasco_run.specs.Calls.{call_of};
+ghost use Rattle.fiasco_run.specs.Served.{IsExact, IsPutAlone, IsServed};
+ghost use Rattle.fiasco_run.specs.Headline.{ReportsRun, ReportsLegal};
+ghost use Rattle.fiasco_run.specs.declared.call.Call.TheVariants as call;
+
+use crate::exit::Exit;
+use crate::serve::{put_line, top};
+use k_outside::{Sink, Source};
+use std::alloc::{AllocError, Global};
+use std::env::Args;
+use std::io;
+
+/// The words of the call: all arguments but the first, which is the program's name.
+fn words_of(alloc: Global, arguments: Args) -> Result<Vec<String>, AllocError>
+    ensures { IfOk result (λ words. words.items ≡ drop 1 (into_iter_items arguments)) }
+{
+    arguments.skip(1).collect(alloc)
+}
+
+/// The status where the system doesn't tell the arguments: want of memory, and else no form of a call, as where one is no text.
+fn untold_exit(error: &io::Error) -> Exit
+    ensures memory { error_kind error.now ≡ OutOfMemory → result ≡ Exit.NoMemory }
+    ensures form { error_kind error.now ≢ OutOfMemory → result ≡ Exit.Usage }
+{
+    if error.kind() == io::ErrorKind::OutOfMemory {
+        Exit::NoMemory
+    } else {
+        Exit::Usage
+    }
+}
+
+/// The words of the call, or the status where they aren't had.
+fn words_told(alloc: Global, arguments: io::Result<Args>) -> Result<Vec<String>, Exit>
+    ensures told { IfOk arguments (λ all. MatchResult result (λ words. words.items ≡ drop 1 (into_iter_items all)) (λ e. e ≡ Exit.NoMemory)) }
+    ensures memory { IfErr arguments (λ error. error_kind error ≡ OutOfMemory → result ≡ Err Exit.NoMemory) }
+    ensures form { IfErr arguments (λ error. error_kind error ≢ OutOfMemory → result ≡ Err Exit.Usage) }
+{
+    match arguments {
+        Ok(all) => words_of(alloc, all).map_err(|_| Exit::NoMemory),
+        Err(error) => Err(untold_exit(&error)),
+    }
+}
+
+/// Serves the arguments of the command line, of which the first is the program's name and the others are the words of a call,
+/// as [`top`] serves these words. Where there is no memory for the arguments or for the words, the status is `NoMemory`; where
+/// the system doesn't tell the arguments for another reason, as where one is no text, it is `Usage`. Then the status's text is
+/// put, and nothing is read.
+pub fn serve_arguments<S: Source, K: Sink>(
+    alloc: Global,
+    arguments: io::Result<Args>,
+    source: &mut S,
+    sink: &mut K,
+) -> Exit
+    // The words behind the first argument are served as `top` serves them, or there was no memory for them.
+    ensures run { IfOk arguments (λ all. call_of (map string_bytes (drop 1 (into_iter_items all))) ≡ Some call.Run → result ≡ Exit.Done → ReportsRun (S.left source.old) (K.held sink.old) (K.held sink.new)) }
+    ensures check { IfOk arguments (λ all. call_of (map string_bytes (drop 1 (into_iter_items all))) ≡ Some call.Check → result ≡ Exit.Done → ReportsLegal (S.left source.old) (K.held sink.old) (K.held sink.new)) }
+    ensures served { IfOk arguments (λ all. IsServed (call_of (map string_bytes (drop 1 (into_iter_items all)))) result (S.left source.old) (S.left source.new) (S.faults source.old) (S.faults source.new) (K.held sink.old) (K.held sink.new) (K.faults sink.old) (K.faults sink.new) ⊎ IsPutAlone result Exit.NoMemory (S.left source.old) (S.left source.new) (K.held sink.old) (K.held sink.new) (K.faults sink.old) (K.faults sink.new)) }
+    ensures exact { IfOk arguments (λ all. IsExact (call_of (map string_bytes (drop 1 (into_iter_items all)))) result (S.left source.old) (Rose (S.faults source.old) (S.faults source.new)) (Rose (K.faults sink.old) (K.faults sink.new)) ⊎ IsPutAlone result Exit.NoMemory (S.left source.old) (S.left source.new) (K.held sink.old) (K.held sink.new) (K.faults sink.old) (K.faults sink.new)) }
+
+    // The arguments aren't told.
+    ensures memory { IfErr arguments (λ error. error_kind error ≡ OutOfMemory → IsPutAlone result Exit.NoMemory (S.left source.old) (S.left source.new) (K.held sink.old) (K.held sink.new) (K.faults sink.old) (K.faults sink.new)) }
+    ensures form { IfErr arguments (λ error. error_kind error ≢ OutOfMemory → IsPutAlone result Exit.Usage (S.left source.old) (S.left source.new) (K.held sink.old) (K.held sink.new) (K.faults sink.old) (K.faults sink.new)) }
+    ensures later { (S.faults source.old ≤ S.faults source.new) × (K.faults sink.old ≤ K.faults sink.new) }
+{
+    match words_told(alloc, arguments) {
+        Ok(words) => top(alloc, &words, source, sink),
+        Err(exit) => put_line(exit, exit.line().as_bytes(), sink),
+    }
+}

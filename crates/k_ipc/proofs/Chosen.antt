@@ -5,9 +5,9 @@ use Rattle.std.proofs.lemmas.Grind.{common_steps}
 use Rattle.k_ids.specs.declared.threads.ThreadId.{ThreadId}
 use Rattle.k_model.specs.State.{admits}
 use Rattle.k_senders.specs.declared.entries.SenderEntry.{SenderEntry}
-use Rattle.k_senders.specs.Queue.{IsOnceEach, entry_of, number_of, stands}
+use Rattle.k_senders.specs.Queue.{IsOnceEach, entry_of, stands}
 use Rattle.k_ipc.specs.Candidates.{admitted, first_admitted, onward, past}
-use Rattle.k_ipc.specs.Words.{sender_of}
+use Rattle.k_senders.specs.Entries.{number_of, sender_of}
 use Rattle.k_ipc.proofs.Scanned.{entry_stands, onward_is}
 
 -- the first candidate of entries that have a number each

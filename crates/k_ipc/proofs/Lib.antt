@@ -1,7 +1,7 @@
-pub mod Scanned
-pub mod Lost
-pub mod SendLaws
-pub mod ReceiveLaws
-pub mod SendRuns
 pub mod Chosen
+pub mod Held
+pub mod ReceiveLaws
 pub mod ReceiveRuns
+pub mod Scanned
+pub mod SendLaws
+pub mod SendRuns

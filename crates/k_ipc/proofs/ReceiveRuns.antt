@@ -1,22 +1,27 @@
--- Runs of a receive: its locks, and how many steps are left.
-use Rattle.std.proofs.Common.{◌≡◌, ℕ, zero, suc, ◌+◌, ◌-◌, ◌*◌, ◌≤◌, Bool, true, false, ◌&&◌, Option, Some, None, List, [], ◌∷◌, length, refl, sym, ap, subst, arith}
-use Rattle.std.proofs.lemmas.Bool.{false≢true, cond_both, eqb-true}
+-- The table of a receive: its locks, and how many steps are left.
+use Rattle.std.proofs.Common.{◌≡◌, ◌≢◌, ℕ, zero, suc, ◌+◌, ◌*◌, ◌≤◌, Bool, true, false, not, Option, Some, None, List, [], ◌∷◌, refl, sym, ap, arith}
+use Rattle.std.proofs.lemmas.Bool.{false≢true, cond_both, eq-eqb, eqb-true}
 use Rattle.std.proofs.lemmas.Grind.{common_steps}
-use Rattle.std.specs.Prelude.{◌==◌, slice_get, not, if◌then◌else◌}
-use Rattle.k_ids.specs.StateWords.{state_word_of}
+use Rattle.std.specs.Prelude.{◌==◌, slice_get, if◌then◌else◌}
 use Rattle.k_ids.specs.declared.threads.ThreadId.{ThreadId}
 use Rattle.k_ids.specs.declared.state_word.State.{State}
 use Rattle.k_ids.specs.declared.state_word.State.TheVariants as state
 use Rattle.k_ids.specs.declared.state_word.StateWord.{StateWord}
 use Rattle.k_senders.specs.declared.entries.SenderEntry.{SenderEntry}
-use Rattle.k_senders.specs.Queue.{IsOnceEach, Queue, number_of}
+use Rattle.k_senders.specs.Entries.{number_of}
+use Rattle.k_senders.specs.Queue.{IsOnceEach, Queue}
+use Rattle.k_locks.specs.declared.goods.Goods.{Goods}
 use Rattle.k_locks.specs.declared.goods.Goods.TheVariants as goods
 use Rattle.k_locks.specs.declared.locks.Lock.{Lock}
 use Rattle.k_locks.specs.declared.locks.Lock.TheVariants as lock
-use Rattle.k_locks.specs.Locks.{rank_of}
-use Rattle.k_locks.specs.declared.steps.Answer.{Answer}
-use Rattle.k_locks.specs.declared.steps.Answer.TheVariants.{Loaded, Won, Lost, Got, Released}
+use Rattle.k_locks.specs.Asks as asks
+use Rattle.k_locks.specs.Asks.{Response, is_lost}
+use Rattle.k_locks.specs.Hands.{Hand}
+use Rattle.k_locks.specs.Locks.{Holds, IsByRank}
 use Rattle.k_locks.specs.Shown.{is_dead, is_present_in}
+use Rattle.k_locks.specs.Tables.{IsAbove, IsHeld, IsMade, IsReleasedInTime, IsRising, brings, hand_came, locks_after, misses, there_after}
+use Rattle.k_locks.proofs.Responses.{Each, Again, made_by, told_by}
+use Rattle.k_locks.proofs.Tables.{IsFalling, is_exchange, released_in_time}
 use Rattle.k_ipc.specs.declared.receive.ReceiveCall.{ReceiveCall}
 use Rattle.k_ipc.specs.declared.receive.ReceiveOutside.TheVariants.{LoadCaller, AcquireOwn, Ended}
 use Rattle.k_ipc.specs.declared.receive.ReceiveLocked.{ReceiveLocked}
@@ -24,86 +29,109 @@ use Rattle.k_ipc.specs.declared.receive.ReceiveLocked.TheVariants.{LoadOwn, Load
 use Rattle.k_ipc.specs.declared.receive.ReceiveRelease.TheVariants as release
 use Rattle.k_ipc.specs.declared.receive.ReceivePushing.TheVariants.{LoadFreed, PushFreed}
 use Rattle.k_ipc.specs.Candidates.{admitted, first_admitted, past}
-use Rattle.k_ipc.specs.Hands.{Hand, hand_with}
-use Rattle.k_ipc.specs.ReceiveTable.{IsCandidate, ReceiveAt, Outside, Locked, Pushing, after_free, after_wait, candidates_after, candidates_from, counted, left_none, left_of, left_own, left_picking, left_ready, left_thread, left_wait, locks_of, next_of, none_left, own_of, picking_by, rest_of, rest_thread, resume_of, stays_out, still_waits, try_next, try_sender}
-use Rattle.k_ipc.specs.Runs.{IsChosen, IsChosenAt, IsReceiveRun, is_found, lost_later, keeps, receive_holds_ready, receive_holds_thread}
-use Rattle.k_ipc.proofs.Lost.{lost_parts, own_number, slack}
-use Rattle.k_locks.specs.Runs.{IsAbove, IsByRank, is_lost, locks_after, lost_in, makes}
+use Rattle.k_ipc.specs.ReceiveTable.{IsAllowed, IsCandidate, IsChosen, IsCounted, ReceiveAt, Outside, Locked, Pushing, after_free, after_wait, ask_of, candidates_after, candidates_from, counted, first_locked, hand_after, leads, left_none, left_of, left_own, left_picking, left_ready, left_thread, left_wait, locks_of, none_left, picking_by, receive_table, rest_of, rest_thread, seen_of, stays_out, still_waits, try_next, try_sender}
 use Rattle.k_ipc.proofs.Chosen.{first_is, next_is, some_left}
+use Rattle.k_ipc.proofs.Held.{by_thread, none_held, own_number}
 
 -- LOCKS
 
-no_lock : (rank : ℕ) (l : Lock) → slice_get (None ∷ None ∷ None ∷ []) rank ≡ Some (Some l) → ⊥
-no_lock rank l e = grind (arith, common_steps)
-
-pub held_by_rank : (c : ReceiveCall) (p : ReceiveAt) → IsByRank (locks_of c p)
+held_by_rank : (c : ReceiveCall) (p : ReceiveAt) → IsByRank (locks_of c p)
 held_by_rank c (Outside p) rank l e = grind (arith, common_steps)
 held_by_rank c (Locked p) rank l e = grind (arith, common_steps)
 held_by_rank c (Pushing p) rank l e = grind (arith, common_steps)
 
-pub above : (c : ReceiveCall) (own : StateWord) (h : Hand) (p : ReceiveAt) → IsAbove (next_of c own h p) (locks_of c p)
-above c own h (Outside LoadCaller) = tt
-above c own h (Outside AcquireOwn) = λ rank m e. absurd (no_lock rank m e)
-above c own h (Outside (Ended w)) = tt
-above c own h (Locked LoadOwn) = tt
-above c own h (Locked (LoadSender d)) = tt
-above c own h (Locked (FreeSender d w)) = tt
-above c own h (Locked (AcquireReady d)) = λ rank m e. grind (arith, common_steps)
-above c own h (Locked CommitWait) = tt
-above c own h (Locked (LoadPartner from)) = tt
-above c own h (Locked (CommitGone from)) = tt
-above c own h (Locked LoadPicking) = tt
-above c own h (Locked (LoadNext d)) = tt
-above c own h (Locked (FreeNext d w)) = tt
-above c own h (Locked (EndPick d w)) = tt
-above c own h (Locked SettlePick) = tt
-above c own h (Locked (Release r)) = tt
-above c own h (Pushing (LoadFreed d)) = tt
-above c own h (Pushing (PushFreed d w)) = tt
+above : (c : ReceiveCall) (own : StateWord) (p : ReceiveAt) → IsAbove (ask_of c own p) (locks_of c p)
+above c own (Outside LoadCaller) = tt
+above c own (Outside AcquireOwn) = λ rank m e. absurd (none_held rank m e)
+above c own (Outside (Ended w)) = tt
+above c own (Locked LoadOwn) = tt
+above c own (Locked (LoadSender d)) = tt
+above c own (Locked (FreeSender d w)) = tt
+above c own (Locked (AcquireReady d)) = λ rank m e. grind (arith, common_steps)
+above c own (Locked CommitWait) = tt
+above c own (Locked (LoadPartner from)) = tt
+above c own (Locked (CommitGone from)) = tt
+above c own (Locked LoadPicking) = tt
+above c own (Locked (LoadNext d)) = tt
+above c own (Locked (FreeNext d w)) = tt
+above c own (Locked (EndPick d w)) = tt
+above c own (Locked SettlePick) = tt
+above c own (Locked (Release r)) = tt
+above c own (Pushing (LoadFreed d)) = tt
+above c own (Pushing (PushFreed d w)) = tt
 
-pub follow : (c : ReceiveCall) (own : StateWord) (h : Hand) (p : ReceiveAt) (a : Answer) → makes (next_of c own h p) a ≡ true → locks_of c (resume_of c h p a) ≡ locks_after (next_of c own h p) a (locks_of c p)
-follow c own h (Outside LoadCaller) (Loaded n) e = refl
-follow c own h (Outside LoadCaller) a e = absurd (false≢true e)
-follow c own h (Outside AcquireOwn) (Got g) e = refl
-follow c own h (Outside AcquireOwn) a e = absurd (false≢true e)
-follow c own h (Outside (Ended w)) (Loaded n) e = refl
-follow c own h (Outside (Ended w)) a e = absurd (false≢true e)
-follow c own h (Locked LoadOwn) (Loaded n) e = refl
-follow c own h (Locked LoadOwn) a e = absurd (false≢true e)
-follow c own h (Locked (LoadSender d)) (Loaded n) e = refl
-follow c own h (Locked (LoadSender d)) a e = absurd (false≢true e)
-follow c own h (Locked (FreeSender d w)) Won e = refl
-follow c own h (Locked (FreeSender d w)) (Lost n) e = refl
-follow c own h (Locked (FreeSender d w)) a e = absurd (false≢true e)
-follow c own h (Locked (AcquireReady d)) (Got g) e = refl
-follow c own h (Locked (AcquireReady d)) a e = absurd (false≢true e)
-follow c own h (Locked CommitWait) Won e = refl
-follow c own h (Locked CommitWait) (Lost n) e = refl
-follow c own h (Locked CommitWait) a e = absurd (false≢true e)
-follow c own h (Locked (LoadPartner from)) (Loaded n) e = refl
-follow c own h (Locked (LoadPartner from)) a e = absurd (false≢true e)
-follow c own h (Locked (CommitGone from)) Won e = refl
-follow c own h (Locked (CommitGone from)) (Lost n) e = refl
-follow c own h (Locked (CommitGone from)) a e = absurd (false≢true e)
-follow c own h (Locked LoadPicking) (Loaded n) e = refl
-follow c own h (Locked LoadPicking) a e = absurd (false≢true e)
-follow c own h (Locked (LoadNext d)) (Loaded n) e = refl
-follow c own h (Locked (LoadNext d)) a e = absurd (false≢true e)
-follow c own h (Locked (FreeNext d w)) Won e = refl
-follow c own h (Locked (FreeNext d w)) (Lost n) e = refl
-follow c own h (Locked (FreeNext d w)) a e = absurd (false≢true e)
-follow c own h (Locked (EndPick d w)) Won e = refl
-follow c own h (Locked (EndPick d w)) (Lost n) e = refl
-follow c own h (Locked (EndPick d w)) a e = absurd (false≢true e)
-follow c own h (Locked SettlePick) Won e = refl
-follow c own h (Locked SettlePick) (Lost n) e = refl
-follow c own h (Locked SettlePick) a e = absurd (false≢true e)
-follow c own h (Locked (Release r)) Released e = refl
-follow c own h (Locked (Release r)) a e = absurd (false≢true e)
-follow c own h (Pushing (LoadFreed d)) (Loaded n) e = refl
-follow c own h (Pushing (LoadFreed d)) a e = absurd (false≢true e)
-follow c own h (Pushing (PushFreed d w)) Released e = refl
-follow c own h (Pushing (PushFreed d w)) a e = absurd (false≢true e)
+releases_held : (c : ReceiveCall) (own : StateWord) (p : ReceiveAt) → IsHeld (ask_of c own p) (locks_of c p)
+releases_held c own (Outside LoadCaller) = tt
+releases_held c own (Outside AcquireOwn) = tt
+releases_held c own (Outside (Ended w)) = tt
+releases_held c own (Locked LoadOwn) = tt
+releases_held c own (Locked (LoadSender d)) = tt
+releases_held c own (Locked (FreeSender d w)) = tt
+releases_held c own (Locked (AcquireReady d)) = tt
+releases_held c own (Locked CommitWait) = tt
+releases_held c own (Locked (LoadPartner from)) = tt
+releases_held c own (Locked (CommitGone from)) = tt
+releases_held c own (Locked LoadPicking) = tt
+releases_held c own (Locked (LoadNext d)) = tt
+releases_held c own (Locked (FreeNext d w)) = tt
+releases_held c own (Locked (EndPick d w)) = tt
+releases_held c own (Locked SettlePick) = tt
+releases_held c own (Locked (Release r)) = refl
+releases_held c own (Pushing (LoadFreed d)) = tt
+releases_held c own (Pushing (PushFreed d w)) = refl
+
+-- after each response the locks are those that were held, with the one that was got, without the one that was released
+abbrev Follows : ReceiveCall → StateWord → Hand → ReceiveAt → Response → Type 0
+Follows c own h p r = locks_of c (leads c h p r) ≡ locks_after (ask_of c own p) r (locks_of c p)
+
+follow : (c : ReceiveCall) (own : StateWord) (h : Hand) (p : ReceiveAt) → Each (ask_of c own p) (Follows c own h p)
+follow c own h (Outside LoadCaller) = λ v. refl
+follow c own h (Outside AcquireOwn) = refl
+follow c own h (Outside (Ended w)) = λ v. refl
+follow c own h (Locked LoadOwn) = λ v. refl
+follow c own h (Locked (LoadSender d)) = λ v. refl
+follow c own h (Locked (FreeSender d w)) = (refl, λ v. refl)
+follow c own h (Locked (AcquireReady d)) = refl
+follow c own h (Locked CommitWait) = (refl, λ v. refl)
+follow c own h (Locked (LoadPartner from)) = λ v. refl
+follow c own h (Locked (CommitGone from)) = (refl, λ v. refl)
+follow c own h (Locked LoadPicking) = λ v. refl
+follow c own h (Locked (LoadNext d)) = λ v. refl
+follow c own h (Locked (FreeNext d w)) = (refl, λ v. refl)
+follow c own h (Locked (EndPick d w)) = (refl, λ v. refl)
+follow c own h (Locked SettlePick) = (refl, λ v. refl)
+follow c own h (Locked (Release r)) = refl
+follow c own h (Pushing (LoadFreed d)) = λ v. refl
+follow c own h (Pushing (PushFreed d w)) = refl
+
+follow_again : (c : ReceiveCall) (own : StateWord) (h : Hand) (p : ReceiveAt) → Again (ask_of c own p) (Follows c own h p)
+follow_again c own h (Outside LoadCaller) = tt
+follow_again c own h (Outside AcquireOwn) = λ j. refl
+follow_again c own h (Outside (Ended w)) = tt
+follow_again c own h (Locked LoadOwn) = tt
+follow_again c own h (Locked (LoadSender d)) = tt
+follow_again c own h (Locked (FreeSender d w)) = tt
+follow_again c own h (Locked (AcquireReady d)) = λ j. refl
+follow_again c own h (Locked CommitWait) = tt
+follow_again c own h (Locked (LoadPartner from)) = tt
+follow_again c own h (Locked (CommitGone from)) = tt
+follow_again c own h (Locked LoadPicking) = tt
+follow_again c own h (Locked (LoadNext d)) = tt
+follow_again c own h (Locked (FreeNext d w)) = tt
+follow_again c own h (Locked (EndPick d w)) = tt
+follow_again c own h (Locked SettlePick) = tt
+follow_again c own h (Locked (Release r)) = tt
+follow_again c own h (Pushing (LoadFreed d)) = tt
+follow_again c own h (Pushing (PushFreed d w)) = tt
+
+pub rising : (c : ReceiveCall) → IsRising (receive_table c)
+rising c = record {
+  none = refl;
+  ranked = held_by_rank c;
+  rising = above c;
+  releasing = releases_held c;
+  held = λ own h p r s. told_by (ask_of c own p) r (Follows c own h p) s (follow c own h p) (follow_again c own h p);
+}
 
 -- CANDIDATES
 
@@ -135,45 +163,44 @@ waits_chosen : (c : ReceiveCall) (queue : Queue) (o : Option ThreadId) → IsCho
 waits_chosen c queue None = tt
 waits_chosen c queue (Some from) = tt
 
--- a step leaves the queue in hand as it was, and tries a candidate of it
-pub chosen_stays : (c : ReceiveCall) (own : StateWord) (h : Hand) (p : ReceiveAt) (a : Answer) → IsOnceEach h.queue.entries → IsChosenAt c h.queue p → receive_holds_thread p ≡ true → (makes (next_of c own h p) a && keeps p a) ≡ true → IsChosenAt c h.queue (resume_of c h p a) × ((hand_with a h).queue ≡ h.queue)
-chosen_stays c own h (Outside p) a o i l e = absurd (false≢true l)
-chosen_stays c own h (Locked LoadOwn) (Loaded n) o i l e = (cond_both (is_dead (state_word_of n)) _ _ (IsChosen c h.queue) (λ _. tt) (λ _. (chosen_next c h.queue (first_admitted c.from h.queue.entries) h.queue.entries (first_chosen c h o) refl).0), refl)
-chosen_stays c own h (Locked LoadOwn) a o i l e = absurd (false≢true e)
-chosen_stays c own h (Locked (LoadSender d)) (Loaded n) o i l e = (cond_both (still_waits c d (state_word_of n)) _ _ (IsChosen c h.queue) (λ _. i) (λ _. (chosen_next c h.queue (candidates_after c h d) (past (number_of d) h.queue.entries) (later_chosen c h d o i) refl).0), refl)
-chosen_stays c own h (Locked (LoadSender d)) a o i l e = absurd (false≢true e)
-chosen_stays c own h (Locked (FreeSender d w)) Won o i l e = (freed_chosen c h.queue d w, refl)
-chosen_stays c own h (Locked (FreeSender d w)) (Lost n) o i l e = (i, refl)
-chosen_stays c own h (Locked (FreeSender d w)) a o i l e = absurd (false≢true e)
-chosen_stays c own h (Locked (AcquireReady d)) (Got (goods.Ready lists)) o i l e = (tt, refl)
-chosen_stays c own h (Locked (AcquireReady d)) (Got (goods.Senders queue)) o i l e = absurd (false≢true e)
-chosen_stays c own h (Locked (AcquireReady d)) (Got (goods.Numbers numbers)) o i l e = absurd (false≢true e)
-chosen_stays c own h (Locked (AcquireReady d)) a o i l e = absurd (false≢true e)
-chosen_stays c own h (Locked CommitWait) Won o i l e = (waits_chosen c h.queue c.from, refl)
-chosen_stays c own h (Locked CommitWait) a o i l e = absurd (false≢true e)
-chosen_stays c own h (Locked (LoadPartner from)) (Loaded n) o i l e = (cond_both (is_present_in (state_word_of n) from) _ _ (IsChosen c h.queue) (λ _. tt) (λ _. tt), refl)
-chosen_stays c own h (Locked (LoadPartner from)) a o i l e = absurd (false≢true e)
-chosen_stays c own h (Locked (CommitGone from)) Won o i l e = (tt, refl)
-chosen_stays c own h (Locked (CommitGone from)) a o i l e = absurd (false≢true e)
-chosen_stays c own h (Locked LoadPicking) (Loaded n) o i l e = (picked_chosen c h.queue (first_admitted c.from h.queue.entries) (state_word_of n).state ((chosen_next c h.queue (first_admitted c.from h.queue.entries) h.queue.entries (first_chosen c h o) refl).1), refl)
-chosen_stays c own h (Locked LoadPicking) a o i l e = absurd (false≢true e)
-chosen_stays c own h (Locked (LoadNext d)) (Loaded n) o i l e = (cond_both (still_waits c d (state_word_of n)) _ _ (IsChosen c h.queue) (λ _. i) (λ _. (chosen_next c h.queue (candidates_after c h d) (past (number_of d) h.queue.entries) (later_chosen c h d o i) refl).1), refl)
-chosen_stays c own h (Locked (LoadNext d)) a o i l e = absurd (false≢true e)
-chosen_stays c own h (Locked (FreeNext d w)) Won o i l e = (tt, refl)
-chosen_stays c own h (Locked (FreeNext d w)) (Lost n) o i l e = (i, refl)
-chosen_stays c own h (Locked (FreeNext d w)) a o i l e = absurd (false≢true e)
-chosen_stays c own h (Locked (EndPick d w)) Won o i l e = (freed_chosen c h.queue d w, refl)
-chosen_stays c own h (Locked (EndPick d w)) a o i l e = absurd (false≢true e)
-chosen_stays c own h (Locked SettlePick) Won o i l e = (tt, refl)
-chosen_stays c own h (Locked SettlePick) a o i l e = absurd (false≢true e)
-chosen_stays c own h (Locked (Release r)) Released o i l e = (tt, refl)
-chosen_stays c own h (Locked (Release r)) a o i l e = absurd (false≢true e)
-chosen_stays c own h (Pushing (LoadFreed d)) (Loaded n) o i l e = (tt, refl)
-chosen_stays c own h (Pushing (LoadFreed d)) a o i l e = absurd (false≢true e)
-chosen_stays c own h (Pushing (PushFreed d w)) Released o i l e = (tt, refl)
-chosen_stays c own h (Pushing (PushFreed d w)) a o i l e = absurd (false≢true e)
+-- What `left` takes for granted holds after a step: the queue in hand is as it was, and a candidate of it is tried.
+abbrev Keeps : ReceiveCall → StateWord → Hand → ReceiveAt → Response → Type 0
+Keeps c own h p r = (g : Goods) → brings (ask_of c own p) r g ≡ true → IsAllowed (hand_came r g (hand_after c h p r)) p r → IsCounted c (hand_came r g (hand_after c h p r)) (leads c h p r)
+
+lists_come : (h : Hand) (g : Goods) → brings (asks.Acquire lock.Ready) asks.Got g ≡ true → IsOnceEach h.queue.entries → IsOnceEach (hand_came asks.Got g h).queue.entries
+lists_come h (goods.Ready lists) b u = u
+lists_come h (goods.Senders queue) b u = absurd (false≢true b)
+lists_come h (goods.Numbers numbers) b u = absurd (false≢true b)
+
+first_chosen_of : (c : ReceiveCall) (queue : Queue) → IsChosen c queue (first_locked c)
+first_chosen_of c queue = cond_both c.picks _ _ (IsChosen c queue) (λ _. tt) (λ _. tt)
+
+keeps : (c : ReceiveCall) (own : StateWord) (h : Hand) (p : ReceiveAt) → IsCounted c h p → Each (ask_of c own p) (Keeps c own h p)
+keeps c own h (Outside LoadCaller) i = λ w g b a. tt
+keeps c own h (Outside AcquireOwn) i = λ g b a. (a, first_chosen_of c (hand_came asks.Got g h).queue)
+keeps c own h (Outside (Ended w)) i = λ v g b a. tt
+keeps c own h (Locked LoadOwn) i = λ w g b a. (i.0, cond_both (is_dead w) _ _ (IsChosen c h.queue) (λ _. tt) (λ _. (chosen_next c h.queue (first_admitted c.from h.queue.entries) h.queue.entries (first_chosen c h i.0) refl).0))
+keeps c own h (Locked (LoadSender d)) i = λ w g b a. (i.0, cond_both (still_waits c d w) _ _ (IsChosen c h.queue) (λ _. i.1) (λ _. (chosen_next c h.queue (candidates_after c h d) (past (number_of d) h.queue.entries) (later_chosen c h d i.0 i.1) refl).0))
+keeps c own h (Locked (FreeSender d w)) i = (λ g b a. (i.0, freed_chosen c h.queue d w), λ v g b a. (i.0, i.1))
+keeps c own h (Locked (AcquireReady d)) i = λ g b a. lists_come h g b i.0
+keeps c own h (Locked CommitWait) i = (λ g b a. (i.0, waits_chosen c h.queue c.from), λ v g b a. absurd (false≢true (sym a)))
+keeps c own h (Locked (LoadPartner from)) i = λ w g b a. (i.0, cond_both (is_present_in w from) _ _ (IsChosen c h.queue) (λ _. tt) (λ _. tt))
+keeps c own h (Locked (CommitGone from)) i = (λ g b a. (i.0, tt), λ v g b a. absurd (false≢true (sym a)))
+keeps c own h (Locked LoadPicking) i = λ w g b a. (i.0, picked_chosen c h.queue (first_admitted c.from h.queue.entries) w.state ((chosen_next c h.queue (first_admitted c.from h.queue.entries) h.queue.entries (first_chosen c h i.0) refl).1))
+keeps c own h (Locked (LoadNext d)) i = λ w g b a. (i.0, cond_both (still_waits c d w) _ _ (IsChosen c h.queue) (λ _. i.1) (λ _. (chosen_next c h.queue (candidates_after c h d) (past (number_of d) h.queue.entries) (later_chosen c h d i.0 i.1) refl).1))
+keeps c own h (Locked (FreeNext d w)) i = (λ g b a. (i.0, tt), λ v g b a. (i.0, i.1))
+keeps c own h (Locked (EndPick d w)) i = (λ g b a. (i.0, freed_chosen c h.queue d w), λ v g b a. absurd (false≢true (sym a)))
+keeps c own h (Locked SettlePick) i = (λ g b a. (i.0, tt), λ v g b a. absurd (false≢true (sym a)))
+keeps c own h (Locked (Release r)) i = λ g b a. tt
+keeps c own h (Pushing (LoadFreed d)) i = λ w g b a. i
+keeps c own h (Pushing (PushFreed d w)) i = λ g b a. (i, tt)
 
 -- STEPS LEFT
+
+-- the steps that it costs if the loaded word is gone
+abbrev slack : Bool → ℕ
+slack true = 0
+slack false = 2
 
 wait_few : (o : Option ThreadId) → left_wait o ≤ 4
 wait_few None = omega arith
@@ -251,102 +278,120 @@ pick_later : (c : ReceiveCall) (h : Hand) (d : SenderEntry) (b : Bool) (o : Opti
 pick_later c h d b None u i q = let s = one_left c h d i in omega (arith, s)
 pick_later c h d b (Some e) u i q = let f = (next_is c.from h.queue.entries d e u i.standing i.wanted q).fewer in omega (arith, f)
 
--- a candidate that is tried
-free_first : (b : Bool) (m : ℕ) → 1 ≤ m → (if b then 5 else m + 6) + 1 ≤ m + 5 + slack b
-free_first true m l = omega (arith, l)
-free_first false m l = omega arith
+freed_all : (c : ReceiveCall) (h : Hand) (b : Bool) (e : SenderEntry) (w : StateWord) → rest_thread c h b (Locked (after_free e w)) ≤ 4
+freed_all c h b e w = cond_both (stays_out w) _ _ (λ (q : ReceiveLocked). rest_thread c h b (Locked q) ≤ 4) (λ _. omega arith) (λ _. omega arith)
 
-free_next : (b : Bool) (m : ℕ) → 1 ≤ m → (if b then 6 else m + 7) + 1 ≤ m + 6 + slack b
-free_next true m l = omega (arith, l)
-free_next false m l = omega arith
+waits_fall : (c : ReceiveCall) (h : Hand) (b : Bool) (o : Option ThreadId) → 1 + rest_thread c h b (Locked (after_wait o)) ≤ left_wait o
+waits_fall c h b None = omega arith
+waits_fall c h b (Some from) = omega arith
 
-freed_few : (c : ReceiveCall) (h : Hand) (b : Bool) (e : SenderEntry) (w : StateWord) → rest_thread c h b (Locked (after_free e w)) ≤ 4 + slack b
-freed_few c h b e w = cond_both (stays_out w) _ _ (λ (q : ReceiveLocked). rest_thread c h b (Locked q) ≤ 4 + slack b) (λ _. omega arith) (λ _. omega arith)
+-- One step: what is left falls by it.
+abbrev Falls : ReceiveCall → StateWord → Hand → ReceiveAt → Response → Type 0
+Falls c own h p r = (g : Goods) → IsAllowed (hand_came r g (hand_after c h p r)) p r → (there : Bool) → (misses (seen_of p) (ask_of c own p) r ≡ true → there ≡ false)
+    → 1 + rest_thread c (hand_came r g (hand_after c h p r)) (there_after there r) (leads c h p r) ≤ rest_thread c h there p
 
-waits_few : (c : ReceiveCall) (h : Hand) (b : Bool) (o : Option ThreadId) → rest_thread c h b (Locked (after_wait o)) + 1 ≤ left_wait o + slack b
-waits_few c h b None = omega arith
-waits_few c h b (Some from) = omega arith
+-- at an exchange of a sender's word
+free_won : (n m : ℕ) (there : Bool) → n ≤ 4 → 5 ≤ m → 1 + n ≤ (if there then 5 else m)
+free_won n m true l k = omega (arith, l)
+free_won n m false l k = omega (arith, l, k)
 
--- One step: what is left falls by it, where the word that was loaded is still there after it; where it isn't, two more are made.
-pub falls : (c : ReceiveCall) (own : StateWord) (h : Hand) (p : ReceiveAt) (a : Answer) (b : Bool) → IsOnceEach h.queue.entries → IsChosenAt c h.queue p → receive_holds_thread p ≡ true → (makes (next_of c own h p) a && keeps p a) ≡ true → rest_thread c h b (resume_of c h p a) + 1 ≤ rest_thread c h (not (is_lost a)) p + slack b
-falls c own h (Outside p) a b u i l e = absurd (false≢true l)
-falls c own h (Locked LoadOwn) (Loaded m) b u i l e =
+next_won : (m : ℕ) (there : Bool) → 6 ≤ m → 6 ≤ (if there then 6 else m)
+next_won m true k = omega arith
+next_won m false k = k
+
+free_lost : (n m k : ℕ) (there : Bool) → there ≡ false → 1 + n ≤ m → 1 + n ≤ (if there then k else m)
+free_lost n m k true q l = absurd (false≢true (sym q))
+free_lost n m k false q l = l
+
+falls : (c : ReceiveCall) (own : StateWord) (h : Hand) (p : ReceiveAt) → IsCounted c h p → left_thread c h p ≢ 0 → Each (ask_of c own p) (Falls c own h p)
+falls c own h (Outside p) i held = absurd (held refl)
+falls c own h (Locked LoadOwn) i held = λ w g a there m.
     let least = own_least c (admitted c.from h.queue.entries) in
-    cond_both (is_dead (state_word_of m)) _ _ (λ (q : ReceiveLocked). rest_thread c h b (Locked q) + 1 ≤ left_own c (admitted c.from h.queue.entries) + slack b) (λ _. omega (arith, least)) (λ _. try_own c h b (first_admitted c.from h.queue.entries) u refl)
-falls c own h (Locked LoadOwn) a b u i l e = absurd (false≢true e)
-falls c own h (Locked (LoadSender d)) (Loaded m) b u i l e =
-    let s = one_left c h d i in
-    cond_both (still_waits c d (state_word_of m)) _ _ (λ (q : ReceiveLocked). rest_thread c h b (Locked q) + 1 ≤ candidates_from c h d + 5 + slack b) (λ _. free_first b (candidates_from c h d) s) (λ _. try_later c h d b (candidates_after c h d) u i refl)
-falls c own h (Locked (LoadSender d)) a b u i l e = absurd (false≢true e)
-falls c own h (Locked (FreeSender d w)) Won b u i l e =
-    let f = freed_few c h b d w in
-    omega (arith, f)
-falls c own h (Locked (FreeSender d w)) (Lost m) b u i l e = omega arith
-falls c own h (Locked (FreeSender d w)) a b u i l e = absurd (false≢true e)
-falls c own h (Locked (AcquireReady d)) (Got g) b u i l e = omega arith
-falls c own h (Locked (AcquireReady d)) a b u i l e = absurd (false≢true e)
-falls c own h (Locked CommitWait) Won b u i l e = waits_few c h b c.from
-falls c own h (Locked CommitWait) a b u i l e = absurd (false≢true e)
-falls c own h (Locked (LoadPartner from)) (Loaded m) b u i l e = cond_both (is_present_in (state_word_of m) from) _ _ (λ (q : ReceiveLocked). rest_thread c h b (Locked q) + 1 ≤ 3 + slack b) (λ _. omega arith) (λ _. omega arith)
-falls c own h (Locked (LoadPartner from)) a b u i l e = absurd (false≢true e)
-falls c own h (Locked (CommitGone from)) Won b u i l e = omega arith
-falls c own h (Locked (CommitGone from)) a b u i l e = absurd (false≢true e)
-falls c own h (Locked LoadPicking) (Loaded m) b u i l e = pick_by c h b (admitted c.from h.queue.entries) (first_admitted c.from h.queue.entries) (state_word_of m).state (try_pick c h b (first_admitted c.from h.queue.entries) u refl)
-falls c own h (Locked LoadPicking) a b u i l e = absurd (false≢true e)
-falls c own h (Locked (LoadNext d)) (Loaded m) b u i l e =
-    let s = one_left c h d i in
-    cond_both (still_waits c d (state_word_of m)) _ _ (λ (q : ReceiveLocked). rest_thread c h b (Locked q) + 1 ≤ candidates_from c h d + 6 + slack b) (λ _. free_next b (candidates_from c h d) s) (λ _. pick_later c h d b (candidates_after c h d) u i refl)
-falls c own h (Locked (LoadNext d)) a b u i l e = absurd (false≢true e)
-falls c own h (Locked (FreeNext d w)) Won b u i l e = omega arith
-falls c own h (Locked (FreeNext d w)) (Lost m) b u i l e = omega arith
-falls c own h (Locked (FreeNext d w)) a b u i l e = absurd (false≢true e)
-falls c own h (Locked (EndPick d w)) Won b u i l e = let f = freed_few c h b d w in omega (arith, f)
-falls c own h (Locked (EndPick d w)) a b u i l e = absurd (false≢true e)
-falls c own h (Locked SettlePick) Won b u i l e = omega arith
-falls c own h (Locked SettlePick) a b u i l e = absurd (false≢true e)
-falls c own h (Locked (Release r)) Released b u i l e = omega arith
-falls c own h (Locked (Release r)) a b u i l e = absurd (false≢true e)
-falls c own h (Pushing (LoadFreed d)) (Loaded m) b u i l e = omega arith
-falls c own h (Pushing (LoadFreed d)) a b u i l e = absurd (false≢true e)
-falls c own h (Pushing (PushFreed d w)) Released b u i l e = omega arith
-falls c own h (Pushing (PushFreed d w)) a b u i l e = absurd (false≢true e)
+    cond_both (is_dead w) _ _ (λ (q : ReceiveLocked). 1 + rest_thread c h true (Locked q) ≤ left_own c (admitted c.from h.queue.entries)) (λ _. omega (arith, least)) (λ _. let t = try_own c h true (first_admitted c.from h.queue.entries) i.0 refl in omega (arith, t))
+falls c own h (Locked (LoadSender d)) i held = λ w g a there m.
+    let s = one_left c h d i.1 in
+    cond_both (still_waits c d w) _ _ (λ (q : ReceiveLocked). 1 + rest_thread c h true (Locked q) ≤ candidates_from c h d + 5) (λ _. omega (arith, s)) (λ _. let t = try_later c h d true (candidates_after c h d) i.0 i.1 refl in omega (arith, t))
+falls c own h (Locked (FreeSender d w)) i held = (λ g a there m. let f = freed_all c h there d w in free_won (rest_thread c h there (Locked (after_free d w))) (candidates_from c h d + 6) there f (omega arith),
+  λ v g a there m. free_lost (candidates_from c h d + 5) (candidates_from c h d + 6) 5 there (m (eq-eqb (number_of d) (number_of d) refl)) (omega arith))
+falls c own h (Locked (AcquireReady d)) i held = λ g a there m. omega arith
+falls c own h (Locked CommitWait) i held = (λ g a there m. waits_fall c h there c.from, λ v g a there m. absurd (false≢true (sym a)))
+falls c own h (Locked (LoadPartner from)) i held = λ w g a there m. cond_both (is_present_in w from) _ _ (λ (q : ReceiveLocked). 1 + rest_thread c h true (Locked q) ≤ 3) (λ _. omega arith) (λ _. omega arith)
+falls c own h (Locked (CommitGone from)) i held = (λ g a there m. omega arith, λ v g a there m. absurd (false≢true (sym a)))
+falls c own h (Locked LoadPicking) i held = λ w g a there m. let t = pick_by c h true (admitted c.from h.queue.entries) (first_admitted c.from h.queue.entries) w.state (try_pick c h true (first_admitted c.from h.queue.entries) i.0 refl) in omega (arith, t)
+falls c own h (Locked (LoadNext d)) i held = λ w g a there m.
+    let s = one_left c h d i.1 in
+    cond_both (still_waits c d w) _ _ (λ (q : ReceiveLocked). 1 + rest_thread c h true (Locked q) ≤ candidates_from c h d + 6) (λ _. omega (arith, s)) (λ _. let t = pick_later c h d true (candidates_after c h d) i.0 i.1 refl in omega (arith, t))
+falls c own h (Locked (FreeNext d w)) i held = (λ g a there m. next_won (candidates_from c h d + 7) there (omega arith),
+  λ v g a there m. free_lost (candidates_from c h d + 6) (candidates_from c h d + 7) 6 there (m (eq-eqb (number_of d) (number_of d) refl)) (omega arith))
+falls c own h (Locked (EndPick d w)) i held = (λ g a there m. let f = freed_all c h there d w in omega (arith, f), λ v g a there m. absurd (false≢true (sym a)))
+falls c own h (Locked SettlePick) i held = (λ g a there m. omega arith, λ v g a there m. absurd (false≢true (sym a)))
+falls c own h (Locked (Release r)) i held = λ g a there m. omega arith
+falls c own h (Pushing (LoadFreed d)) i held = λ w g a there m. omega arith
+falls c own h (Pushing (PushFreed d w)) i held = λ g a there m. omega arith
 
-most_steps : (c : ReceiveCall) (own : StateWord) (h : Hand) (p : ReceiveAt) (answers : List Answer) → IsOnceEach h.queue.entries → IsChosenAt c h.queue p → IsReceiveRun receive_holds_thread c own h p answers → length answers ≤ rest_thread c h (is_found answers) p + 2 * lost_later answers
-most_steps c own h p [] u i r = omega arith
-most_steps c own h p (a ∷ more) u i r =
-    let f = falls c own h p a (is_found more) u i r.0 r.1 in
-    let s = chosen_stays c own h p a u i r.0 r.1 in
-    let same = s.1 in
-    let once = subst (λ (q : Queue). IsOnceEach q.entries) (sym same) u in
-    let chosen = subst (λ (q : Queue). IsChosenAt c q (resume_of c h p a)) (sym same) s.0 in
-    let m = most_steps c (own_of c own p a) (hand_with a h) (resume_of c h p a) more once chosen r.2 in
-    let q = rest_same c h (hand_with a h) (is_found more) (resume_of c h p a) same in
-    let parts = lost_parts more in
-    omega (arith, f, m, q, parts)
-  where
-    rest_same : (c : ReceiveCall) (h k : Hand) (b : Bool) (p : ReceiveAt) → k.queue ≡ h.queue → rest_thread c k b p ≡ rest_thread c h b p
-    rest_same c h k b p q = ap (λ (x : Queue). rest_thread c (record { queue = x; lists = h.lists }) b p) q
+-- One step after which the loaded word is gone: two more are made.
+abbrev Misses : ReceiveCall → StateWord → Hand → ReceiveAt → Response → Type 0
+Misses c own h p r = (g : Goods) → IsAllowed (hand_came r g (hand_after c h p r)) p r → 1 + rest_thread c (hand_came r g (hand_after c h p r)) false (leads c h p r) ≤ rest_thread c h (not (is_lost r)) p + 2
 
--- the table's column, and how many lost exchanges it counts
-rest_left : (c : ReceiveCall) (h : Hand) (p : ReceiveAt) (b : Bool) (l n : ℕ) → IsChosenAt c h.queue p → 2 * n ≡ 2 * l + slack b → rest_thread c h b p + 2 * l ≤ left_thread c h p + 2 * (n - counted p)
-rest_left c h (Outside p) b l n i s = omega (arith, s)
-rest_left c h (Locked LoadOwn) b l n i s = omega (arith, s)
-rest_left c h (Locked (LoadSender d)) b l n i s = omega (arith, s)
-rest_left c h (Locked (FreeSender d w)) true l n i s = let m = one_left c h d i in omega (arith, s, m)
-rest_left c h (Locked (FreeSender d w)) false l n i s = omega (arith, s)
-rest_left c h (Locked (AcquireReady d)) b l n i s = omega (arith, s)
-rest_left c h (Locked CommitWait) b l n i s = omega (arith, s)
-rest_left c h (Locked (LoadPartner from)) b l n i s = omega (arith, s)
-rest_left c h (Locked (CommitGone from)) b l n i s = omega (arith, s)
-rest_left c h (Locked LoadPicking) b l n i s = omega (arith, s)
-rest_left c h (Locked (LoadNext d)) b l n i s = omega (arith, s)
-rest_left c h (Locked (FreeNext d w)) true l n i s = let m = one_left c h d i in omega (arith, s, m)
-rest_left c h (Locked (FreeNext d w)) false l n i s = omega (arith, s)
-rest_left c h (Locked (EndPick d w)) b l n i s = omega (arith, s)
-rest_left c h (Locked SettlePick) b l n i s = omega (arith, s)
-rest_left c h (Locked (Release r)) b l n i s = omega (arith, s)
-rest_left c h (Pushing (LoadFreed d)) b l n i s = omega (arith, s)
-rest_left c h (Pushing (PushFreed d w)) b l n i s = omega (arith, s)
+missed : (c : ReceiveCall) (own : StateWord) (h : Hand) (p : ReceiveAt) → IsCounted c h p → left_thread c h p ≢ 0 → Each (ask_of c own p) (Misses c own h p)
+missed c own h (Outside p) i held = absurd (held refl)
+missed c own h (Locked LoadOwn) i held = λ w g a.
+    cond_both (is_dead w) _ _ (λ (q : ReceiveLocked). 1 + rest_thread c h false (Locked q) ≤ left_own c (admitted c.from h.queue.entries) + 2) (λ _. omega arith) (λ _. let t = try_own c h false (first_admitted c.from h.queue.entries) i.0 refl in omega (arith, t))
+missed c own h (Locked (LoadSender d)) i held = λ w g a.
+    cond_both (still_waits c d w) _ _ (λ (q : ReceiveLocked). 1 + rest_thread c h false (Locked q) ≤ candidates_from c h d + 5 + 2) (λ _. omega arith) (λ _. let t = try_later c h d false (candidates_after c h d) i.0 i.1 refl in omega (arith, t))
+missed c own h (Locked (FreeSender d w)) i held = (λ g a. let f = freed_all c h false d w in omega (arith, f), λ v g a. omega arith)
+missed c own h (Locked (AcquireReady d)) i held = λ g a. omega arith
+missed c own h (Locked CommitWait) i held = (λ g a. let f = waits_fall c h false c.from in omega (arith, f), λ v g a. absurd (false≢true (sym a)))
+missed c own h (Locked (LoadPartner from)) i held = λ w g a. cond_both (is_present_in w from) _ _ (λ (q : ReceiveLocked). 1 + rest_thread c h false (Locked q) ≤ 3 + 2) (λ _. omega arith) (λ _. omega arith)
+missed c own h (Locked (CommitGone from)) i held = (λ g a. omega arith, λ v g a. absurd (false≢true (sym a)))
+missed c own h (Locked LoadPicking) i held = λ w g a. let t = pick_by c h false (admitted c.from h.queue.entries) (first_admitted c.from h.queue.entries) w.state (try_pick c h false (first_admitted c.from h.queue.entries) i.0 refl) in omega (arith, t)
+missed c own h (Locked (LoadNext d)) i held = λ w g a.
+    cond_both (still_waits c d w) _ _ (λ (q : ReceiveLocked). 1 + rest_thread c h false (Locked q) ≤ candidates_from c h d + 6 + 2) (λ _. omega arith) (λ _. let t = pick_later c h d false (candidates_after c h d) i.0 i.1 refl in omega (arith, t))
+missed c own h (Locked (FreeNext d w)) i held = (λ g a. omega arith, λ v g a. omega arith)
+missed c own h (Locked (EndPick d w)) i held = (λ g a. let f = freed_all c h false d w in omega (arith, f), λ v g a. absurd (false≢true (sym a)))
+missed c own h (Locked SettlePick) i held = (λ g a. omega arith, λ v g a. absurd (false≢true (sym a)))
+missed c own h (Locked (Release r)) i held = λ g a. omega arith
+missed c own h (Pushing (LoadFreed d)) i held = λ w g a. omega arith
+missed c own h (Pushing (PushFreed d w)) i held = λ g a. omega arith
+
+-- the columns, location by location
+least : (c : ReceiveCall) (h : Hand) (p : ReceiveAt) (there : Bool) → IsCounted c h p → rest_thread c h true p ≤ rest_thread c h there p
+least c h p true i = omega arith
+least c h (Outside p) false i = omega arith
+least c h (Locked LoadOwn) false i = omega arith
+least c h (Locked (LoadSender d)) false i = omega arith
+least c h (Locked (FreeSender d w)) false i = omega arith
+least c h (Locked (AcquireReady d)) false i = omega arith
+least c h (Locked CommitWait) false i = omega arith
+least c h (Locked (LoadPartner from)) false i = omega arith
+least c h (Locked (CommitGone from)) false i = omega arith
+least c h (Locked LoadPicking) false i = omega arith
+least c h (Locked (LoadNext d)) false i = omega arith
+least c h (Locked (FreeNext d w)) false i = omega arith
+least c h (Locked (EndPick d w)) false i = omega arith
+least c h (Locked SettlePick) false i = omega arith
+least c h (Locked (Release r)) false i = omega arith
+least c h (Pushing (LoadFreed d)) false i = omega arith
+least c h (Pushing (PushFreed d w)) false i = omega arith
+
+-- what `left` counts of the lost exchanges
+counts : (c : ReceiveCall) (h : Hand) (p : ReceiveAt) → IsCounted c h p → (rest_thread c h true p + 2 * counted p ≤ left_thread c h p) × (rest_thread c h false p + 2 * counted p ≤ left_thread c h p + 2)
+counts c h (Outside p) i = (omega arith, omega arith)
+counts c h (Locked LoadOwn) i = (omega arith, omega arith)
+counts c h (Locked (LoadSender d)) i = (omega arith, omega arith)
+counts c h (Locked (FreeSender d w)) i = (let s = one_left c h d i.1 in omega (arith, s), omega arith)
+counts c h (Locked (AcquireReady d)) i = (omega arith, omega arith)
+counts c h (Locked CommitWait) i = (omega arith, omega arith)
+counts c h (Locked (LoadPartner from)) i = (omega arith, omega arith)
+counts c h (Locked (CommitGone from)) i = (omega arith, omega arith)
+counts c h (Locked LoadPicking) i = (omega arith, omega arith)
+counts c h (Locked (LoadNext d)) i = (omega arith, omega arith)
+counts c h (Locked (FreeNext d w)) i = (let s = one_left c h d i.1 in omega (arith, s), omega arith)
+counts c h (Locked (EndPick d w)) i = (omega arith, omega arith)
+counts c h (Locked SettlePick) i = (omega arith, omega arith)
+counts c h (Locked (Release r)) i = (omega arith, omega arith)
+counts c h (Pushing (LoadFreed d)) i = (omega arith, omega arith)
+counts c h (Pushing (PushFreed d w)) i = (omega arith, omega arith)
 
 left_rest : (c : ReceiveCall) (h : Hand) (p : ReceiveAt) → left_thread c h p ≡ rest_thread c h false p
 left_rest c h (Outside p) = refl
@@ -366,23 +411,113 @@ left_rest c h (Locked (Release r)) = refl
 left_rest c h (Pushing (LoadFreed d)) = refl
 left_rest c h (Pushing (PushFreed d w)) = refl
 
-pub exact_steps : (c : ReceiveCall) (own : StateWord) (h : Hand) (p : ReceiveAt) (answers : List Answer) → IsOnceEach h.queue.entries → IsChosenAt c h.queue p → IsReceiveRun receive_holds_thread c own h p answers → length answers ≤ rest_of c h (is_found answers) p (lock.Thread c.caller.number) + 2 * lost_later answers
-exact_steps c own h p answers u i r =
-    let m = most_steps c own h p answers u i r in
-    let o = own_number c.caller.number (rest_thread c h (is_found answers) p) in
-    omega (arith, m, o)
+-- a lock is left while it is held
+some_wait : (o : Option ThreadId) → 1 ≤ left_wait o
+some_wait None = omega arith
+some_wait (Some from) = omega arith
 
-pub few_steps : (c : ReceiveCall) (own : StateWord) (h : Hand) (p : ReceiveAt) (answers : List Answer) → IsOnceEach h.queue.entries → IsChosenAt c h.queue p → IsReceiveRun receive_holds_thread c own h p answers → length answers ≤ left_of c h p (lock.Thread c.caller.number) + 2 * (lost_in answers - counted p)
-few_steps c own h p answers u i r =
-    let m = most_steps c own h p answers u i r in
-    let l = rest_left c h p (is_found answers) (lost_later answers) (lost_in answers) i (lost_parts answers) in
-    let o = own_number c.caller.number (left_thread c h p) in
-    omega (arith, m, l, o)
+some_locked : (c : ReceiveCall) (h : Hand) (p : ReceiveLocked) → 1 ≤ left_thread c h (Locked p)
+some_locked c h LoadOwn = let m = own_least c (admitted c.from h.queue.entries) in omega (arith, m)
+some_locked c h (LoadSender d) = omega arith
+some_locked c h (FreeSender d w) = omega arith
+some_locked c h (AcquireReady d) = omega arith
+some_locked c h CommitWait = some_wait c.from
+some_locked c h (LoadPartner from) = omega arith
+some_locked c h (CommitGone from) = omega arith
+some_locked c h LoadPicking = let m = picking_least (admitted c.from h.queue.entries) in omega (arith, m)
+some_locked c h (LoadNext d) = omega arith
+some_locked c h (FreeNext d w) = omega arith
+some_locked c h (EndPick d w) = omega arith
+some_locked c h SettlePick = omega arith
+some_locked c h (Release r) = omega arith
 
-pub columns : (c : ReceiveCall) (h : Hand) (p : ReceiveAt) (k : Lock) → left_of c h p k ≡ rest_of c h false p k
-columns c h p lock.Table = refl
-columns c h p (lock.Thread number) = ap (λ (x : ℕ). if number == c.caller.number then x else 0) (left_rest c h p)
-columns c h p lock.Ready = refl
+ready_falls : (c : ReceiveCall) (own : StateWord) (h : Hand) (p : ReceiveAt) → Holds lock.Ready (locks_of c p) → Each (ask_of c own p) (λ r. 1 + left_ready (leads c h p r) ≤ left_ready p)
+ready_falls c own h (Outside p) holds = absurd cc
+ready_falls c own h (Locked p) holds = absurd cc
+ready_falls c own h (Pushing (LoadFreed d)) holds = λ w. omega arith
+ready_falls c own h (Pushing (PushFreed d w)) holds = omega arith
+
+-- THE TABLE
+
+-- What holds of the thread lock, and, where the ready lock is held, of that, holds of any lock that is held.
+by_lock : (c : ReceiveCall) (h : Hand) (k : Lock) (p : ReceiveAt) (P : Lock → Type 0) → Holds k (locks_of c p) → (1 ≤ left_thread c h p → P (lock.Thread c.caller.number)) → (Holds lock.Ready (locks_of c p) → P lock.Ready) → P k
+by_lock c h lock.Table (Outside p) P held thread ready = absurd cc
+by_lock c h (lock.Thread n) (Outside p) P held thread ready = absurd cc
+by_lock c h lock.Ready (Outside p) P held thread ready = absurd cc
+by_lock c h k (Locked p) P held thread ready = by_thread c.caller.number None k P held (thread (some_locked c h p)) (λ e. absurd cc)
+by_lock c h k (Pushing (LoadFreed d)) P held thread ready = by_thread c.caller.number (Some lock.Ready) k P held (thread (omega arith)) (λ e. ready refl)
+by_lock c h k (Pushing (PushFreed d w)) P held thread ready = by_thread c.caller.number (Some lock.Ready) k P held (thread (omega arith)) (λ e. ready refl)
+
+table_keeps : (c : ReceiveCall) (own : StateWord) (h : Hand) (p : ReceiveAt) (r : Response) (g : Goods) → IsCounted c h p → IsMade (receive_table c) own h p r g → IsCounted c (hand_came r g (hand_after c h p r)) (leads c h p r)
+table_keeps c own h p r g i made = made_by (ask_of c own p) r (Keeps c own h p) made.suiting made.made (keeps c own h p i) g made.guarded made.allowed
+
+table_falls : (c : ReceiveCall) (k : Lock) (own : StateWord) (h : Hand) (p : ReceiveAt) (r : Response) (g : Goods) (there : Bool) → IsCounted c h p → Holds k (locks_of c p) → IsMade (receive_table c) own h p r g → (misses (seen_of p) (ask_of c own p) r ≡ true → there ≡ false)
+    → 1 + rest_of c (hand_came r g (hand_after c h p r)) (there_after there r) (leads c h p r) k ≤ rest_of c h there p k
+table_falls c k own h p r g there i holds made m =
+    let h' = hand_came r g (hand_after c h p r) in
+    by_lock c h k p (λ (l : Lock). 1 + rest_of c h' (there_after there r) (leads c h p r) l ≤ rest_of c h there p l) holds
+      (λ held.
+        let f = made_by (ask_of c own p) r (Falls c own h p) made.suiting made.made (falls c own h p i (λ e. absurd (omega (arith, held, e)))) g made.allowed there m in
+        let after = own_number c.caller.number (rest_thread c h' (there_after there r) (leads c h p r)) in
+        let before = own_number c.caller.number (rest_thread c h there p) in
+        omega (arith, f, after, before))
+      (λ lists. made_by (ask_of c own p) r (λ x. 1 + left_ready (leads c h p x) ≤ left_ready p) made.suiting made.made (ready_falls c own h p lists))
+
+table_missed : (c : ReceiveCall) (k : Lock) (own : StateWord) (h : Hand) (p : ReceiveAt) (r : Response) (g : Goods) → IsCounted c h p → Holds k (locks_of c p) → IsMade (receive_table c) own h p r g → 1 + rest_of c (hand_came r g (hand_after c h p r)) false (leads c h p r) k ≤ rest_of c h (not (is_lost r)) p k + 2
+table_missed c k own h p r g i holds made =
+    let h' = hand_came r g (hand_after c h p r) in
+    by_lock c h k p (λ (l : Lock). 1 + rest_of c h' false (leads c h p r) l ≤ rest_of c h (not (is_lost r)) p l + 2) holds
+      (λ held.
+        let f = made_by (ask_of c own p) r (Misses c own h p) made.suiting made.made (missed c own h p i (λ e. absurd (omega (arith, held, e)))) g made.allowed in
+        let after = own_number c.caller.number (rest_thread c h' false (leads c h p r)) in
+        let before = own_number c.caller.number (rest_thread c h (not (is_lost r)) p) in
+        omega (arith, f, after, before))
+      (λ lists. let f = made_by (ask_of c own p) r (λ x. 1 + left_ready (leads c h p x) ≤ left_ready p) made.suiting made.made (ready_falls c own h p lists) in omega (arith, f))
+
+table_least : (c : ReceiveCall) (h : Hand) (p : ReceiveAt) (there : Bool) (k : Lock) → IsCounted c h p → rest_of c h true p k ≤ rest_of c h there p k
+table_least c h p there lock.Table i = omega arith
+table_least c h p there (lock.Thread number) i = go (number == c.caller.number)
+  where
+    go : (b : Bool) → (if b then rest_thread c h true p else 0) ≤ (if b then rest_thread c h there p else 0)
+    go true = least c h p there i
+    go false = omega arith
+table_least c h p there lock.Ready i = omega arith
+
+-- while the ready lock is held, no exchange is asked for, and none was counted
+quiet : (c : ReceiveCall) (own : StateWord) (p : ReceiveAt) → Holds lock.Ready (locks_of c p) → is_exchange (ask_of c own p) ≡ false
+quiet c own (Outside p) holds = absurd cc
+quiet c own (Locked p) holds = absurd cc
+quiet c own (Pushing (LoadFreed d)) holds = refl
+quiet c own (Pushing (PushFreed d w)) holds = refl
+
+ready_column : (c : ReceiveCall) (p : ReceiveAt) → Holds lock.Ready (locks_of c p) → (counted p ≡ 0) × (1 ≤ left_ready p)
+ready_column c (Outside p) holds = absurd cc
+ready_column c (Locked p) holds = absurd cc
+ready_column c (Pushing (LoadFreed d)) holds = (refl, omega arith)
+ready_column c (Pushing (PushFreed d w)) holds = (refl, omega arith)
+
+table_low : (c : ReceiveCall) (h : Hand) (p : ReceiveAt) (k : Lock) → IsCounted c h p → Holds k (locks_of c p) → rest_of c h true p k + 2 * counted p ≤ left_of c h p k
+table_low c h p k i holds =
+    by_lock c h k p (λ (l : Lock). rest_of c h true p l + 2 * counted p ≤ left_of c h p l) holds
+      (λ held. let f = (counts c h p i).0 in let a = own_number c.caller.number (rest_thread c h true p) in let b = own_number c.caller.number (left_thread c h p) in omega (arith, f, a, b))
+      (λ lists. let f = (ready_column c p lists).0 in omega (arith, f))
+
+table_high : (c : ReceiveCall) (h : Hand) (p : ReceiveAt) (k : Lock) → IsCounted c h p → Holds k (locks_of c p) → rest_of c h false p k + 2 * counted p ≤ left_of c h p k + 2
+table_high c h p k i holds =
+    by_lock c h k p (λ (l : Lock). rest_of c h false p l + 2 * counted p ≤ left_of c h p l + 2) holds
+      (λ held. let f = (counts c h p i).1 in let a = own_number c.caller.number (rest_thread c h false p) in let b = own_number c.caller.number (left_thread c h p) in omega (arith, f, a, b))
+      (λ lists. let f = (ready_column c p lists).0 in omega (arith, f))
+
+table_columns : (c : ReceiveCall) (h : Hand) (p : ReceiveAt) (k : Lock) → left_of c h p k ≡ rest_of c h false p k
+table_columns c h p lock.Table = refl
+table_columns c h p (lock.Thread number) = ap (λ (x : ℕ). if number == c.caller.number then x else 0) (left_rest c h p)
+table_columns c h p lock.Ready = refl
+
+table_some : (c : ReceiveCall) (h : Hand) (p : ReceiveAt) (k : Lock) → Holds k (locks_of c p) → 1 ≤ left_of c h p k
+table_some c h p k holds =
+    by_lock c h k p (λ (l : Lock). 1 ≤ left_of c h p l) holds
+      (λ held. let b = own_number c.caller.number (left_thread c h p) in omega (arith, held, b))
+      (λ lists. (ready_column c p lists).1)
 
 -- a lock of which steps are left is held
 thread_held : (c : ReceiveCall) (h : Hand) (p : ReceiveAt) (number : ℕ) (b : Bool) → (number == c.caller.number) ≡ b → 1 ≤ (if b then left_thread c h p else 0) → slice_get (locks_of c p) 1 ≡ Some (Some (lock.Thread number))
@@ -391,24 +526,27 @@ thread_held c h (Locked p) number true q l = ap (λ (x : ℕ). Some (Some (lock.
 thread_held c h (Pushing p) number true q l = ap (λ (x : ℕ). Some (Some (lock.Thread x))) (sym (eqb-true number c.caller.number q))
 thread_held c h p number false q l = absurd (omega (arith, l))
 
-pub held_where_left : (c : ReceiveCall) (h : Hand) (p : ReceiveAt) (k : Lock) → 1 ≤ left_of c h p k → slice_get (locks_of c p) (rank_of k) ≡ Some (Some k)
-held_where_left c h p lock.Table l = absurd (omega (arith, l))
-held_where_left c h p (lock.Thread number) l = thread_held c h p number (number == c.caller.number) refl l
-held_where_left c h (Outside p) lock.Ready l = absurd (omega (arith, l))
-held_where_left c h (Locked p) lock.Ready l = absurd (omega (arith, l))
-held_where_left c h (Pushing p) lock.Ready l = refl
+table_only : (c : ReceiveCall) (h : Hand) (p : ReceiveAt) (k : Lock) → 1 ≤ left_of c h p k → Holds k (locks_of c p)
+table_only c h p lock.Table l = absurd (omega (arith, l))
+table_only c h p (lock.Thread number) l = thread_held c h p number (number == c.caller.number) refl l
+table_only c h (Outside p) lock.Ready l = absurd (omega (arith, l))
+table_only c h (Locked p) lock.Ready l = absurd (omega (arith, l))
+table_only c h (Pushing p) lock.Ready l = refl
 
-ready_falls : (c : ReceiveCall) (own : StateWord) (h : Hand) (p : ReceiveAt) (a : Answer) → receive_holds_ready p ≡ true → (makes (next_of c own h p) a && keeps p a) ≡ true → left_ready (resume_of c h p a) + 1 ≤ left_ready p
-ready_falls c own h (Outside p) a l e = absurd (false≢true l)
-ready_falls c own h (Locked p) a l e = absurd (false≢true l)
-ready_falls c own h (Pushing (LoadFreed d)) (Loaded n) l e = omega arith
-ready_falls c own h (Pushing (LoadFreed d)) a l e = absurd (false≢true e)
-ready_falls c own h (Pushing (PushFreed d w)) Released l e = omega arith
-ready_falls c own h (Pushing (PushFreed d w)) a l e = absurd (false≢true e)
+falling : (c : ReceiveCall) → IsFalling (receive_table c)
+falling c = record {
+  start = λ h. tt;
+  keeps = table_keeps c;
+  falls = table_falls c;
+  missed = table_missed c;
+  above = λ h p there k i. table_least c h p there k i;
+  low = table_low c;
+  high = table_high c;
+  quiet = quiet c;
+  columns = table_columns c;
+  some = λ h p k i. table_some c h p k;
+  only = table_only c;
+}
 
-pub few_ready_steps : (c : ReceiveCall) (own : StateWord) (h : Hand) (p : ReceiveAt) (answers : List Answer) → IsReceiveRun receive_holds_ready c own h p answers → length answers ≤ left_ready p
-few_ready_steps c own h p [] r = omega arith
-few_ready_steps c own h p (a ∷ more) r =
-    let f = ready_falls c own h p a r.0 r.1 in
-    let m = few_ready_steps c (own_of c own p a) (hand_with a h) (resume_of c h p a) more r.2 in
-    omega (arith, f, m)
+pub in_time : (c : ReceiveCall) → IsReleasedInTime (receive_table c)
+in_time c = released_in_time (receive_table c) (falling c)

@@ -6,9 +6,9 @@ use Rattle.std.proofs.lemmas.Grind.{common_steps}
 use Rattle.k_ids.specs.declared.threads.ThreadId.{ThreadId}
 use Rattle.k_model.specs.State.{admits}
 use Rattle.k_senders.specs.declared.entries.SenderEntry.{SenderEntry}
-use Rattle.k_senders.specs.Queue.{IsOnceEach, entry_of, first_number, number_after, number_of, stands}
+use Rattle.k_senders.specs.Queue.{IsOnceEach, entry_of, first_number, number_after, stands}
 use Rattle.k_ipc.specs.Candidates.{IsLink, admitted, first_admitted, linked, onward, past}
-use Rattle.k_ipc.specs.Words.{sender_of}
+use Rattle.k_senders.specs.Entries.{number_of, sender_of}
 
 pub entry_stands : (n : ℕ) (es : List SenderEntry) (e : SenderEntry) → entry_of n es ≡ Some e → stands n es ≡ true
 entry_stands n [] e h = absurd cc

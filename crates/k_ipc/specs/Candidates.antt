@@ -3,8 +3,8 @@ use Rattle.std.specs.Prelude.{ℕ, ◌≡◌, ◌==◌, true, if◌then◌else�
 use Rattle.k_ids.specs.declared.threads.ThreadId.{ThreadId}
 use Rattle.k_model.specs.State.{admits}
 use Rattle.k_senders.specs.declared.entries.SenderEntry.{SenderEntry}
-use Rattle.k_senders.specs.Queue.{number_of, stands}
-use Rattle.k_ipc.specs.Words.{sender_of}
+use Rattle.k_senders.specs.Entries.{number_of, sender_of}
+use Rattle.k_senders.specs.Queue.{stands}
 
 -- the first entry whose sender is admitted
 abbrev pub first_admitted : Option ThreadId → List SenderEntry → Option SenderEntry

@@ -1,12 +1,12 @@
--- The section of a receive, and of the pick that follows a reply, location by location: its step, where each answer leads,
--- which entry it appends to the history, which locks it holds, and how many steps are left until a lock is released.
--- The locations stand in the order in which a receive comes to them; those of a pick alone come last.
+-- The section of a receive, and of the pick that follows a reply, location by location: what it asks for, where each response leads,
+-- what becomes of what is in hand, which event it appends to the history, which locks it holds, and how many steps are left until a
+-- lock is released. The locations stand in the order in which a receive comes to them; those of a pick alone come last.
 --
 -- The receive is by `c.caller`, from one thread or from any. `own` is the caller's state word as the section knows it, and `h`
 -- is what is in hand: the queue of those who wait to send to the caller. A candidate is an entry of the queue whose sender the
 -- receive admits. Candidates are tried in their order; one whose sender doesn't wait any more is passed over and
 -- stays in the queue.
-use Rattle.std.specs.Prelude.{◌≡◌, ℕ, zero, suc, ◌+◌, ◌<◌, ◌==◌, Bool, true, false, ◌&&◌, ◌||◌, if◌then◌else◌, Option, Some, None, IfSome, List, [], ◌∷◌, ◌++◌}
+use Rattle.std.specs.Prelude.{◌≡◌, ℕ, zero, suc, ◌+◌, ◌<◌, ◌==◌, Bool, true, false, ◌&&◌, ◌||◌, if◌then◌else◌, Option, Some, None, IfSome, List, [], ◌∷◌}
 use Rattle.k_ids.specs.declared.threads.ThreadId.{ThreadId}
 use Rattle.k_ids.specs.declared.calls.Phase.TheVariants as phase
 use Rattle.k_ids.specs.declared.calls.Reply.TheVariants as reply
@@ -14,29 +14,33 @@ use Rattle.k_ids.specs.declared.calls.Act.{Act}
 use Rattle.k_ids.specs.declared.calls.Act.TheVariants as act
 use Rattle.k_ids.specs.declared.calls.Outcome.{Outcome}
 use Rattle.k_ids.specs.declared.calls.Outcome.TheVariants as outcome
-use Rattle.k_ids.specs.declared.histories.Entry.{Entry}
 use Rattle.k_ids.specs.declared.state_word.Result4.TheVariants as result4
 use Rattle.k_ids.specs.declared.state_word.State.{State}
 use Rattle.k_ids.specs.declared.state_word.State.TheVariants as state
 use Rattle.k_ids.specs.declared.state_word.StateWord.{StateWord}
-use Rattle.k_ids.specs.StateWords.{IsPartner, IsStateSpelling, state_bits, state_word_of}
+use Rattle.k_ids.specs.StateWords.{IsPartner, IsStateSpelling}
 use Rattle.k_model.specs.State.{admits}
 use Rattle.k_model.specs.Step.{is_own}
-use Rattle.k_ready.specs.Lists.{IsInNone, Ready, list_of, with_list}
+use Rattle.k_ready.specs.Lists.{IsInNone, Ready}
 use Rattle.k_senders.specs.declared.entries.SenderEntry.{SenderEntry}
-use Rattle.k_senders.specs.Queue.{Queue, entry_of, number_of, without}
+use Rattle.k_senders.specs.Entries.{message_of, number_of, sender_of}
+use Rattle.k_senders.specs.Queue.{IsOnceEach, Queue, entry_of, without}
 use Rattle.k_locks.specs.declared.locks.Lock.{Lock}
 use Rattle.k_locks.specs.declared.locks.Lock.TheVariants as lock
-use Rattle.k_locks.specs.declared.locks.WordName.TheVariants as word
-use Rattle.k_locks.specs.declared.goods.Goods.TheVariants as goods
+use Rattle.k_locks.specs.declared.points.Point.{Point}
 use Rattle.k_locks.specs.declared.steps.Step.{Step}
-use Rattle.k_locks.specs.declared.steps.Step.TheVariants as step
 use Rattle.k_locks.specs.declared.steps.Answer.{Answer}
-use Rattle.k_locks.specs.declared.steps.Answer.TheVariants.{Loaded, Won, Lost, Got, Released}
+use Rattle.k_locks.specs.declared.steps.Answer.TheVariants as answer
+use Rattle.k_locks.specs.declared.steps.Told.TheVariants as told
 use Rattle.k_locks.specs.declared.steps.Went.{Went}
 use Rattle.k_locks.specs.declared.steps.Went.TheVariants as went
+use Rattle.k_locks.specs.Asks as asks
+use Rattle.k_locks.specs.Asks.{Ask, Response, Word, Won, Lost, Got, Released, is_lost, response_of, step_for}
+use Rattle.k_locks.specs.Hands.{Hand, nothing, hand_with, pushed}
 use Rattle.k_locks.specs.Shown.{is_dead, is_present_in}
 use Rattle.k_locks.specs.Steps.{is_again, one_more}
+use Rattle.k_locks.specs.Tables.{Table}
+use Rattle.k_locks.specs.Threads.{IsThread, runs}
 use Rattle.k_ipc.specs.declared.receive.ReceiveCall.{ReceiveCall}
 use Rattle.k_ipc.specs.declared.receive.ReceiveOutside.{ReceiveOutside}
 use Rattle.k_ipc.specs.declared.receive.ReceiveOutside.TheVariants.{LoadCaller, AcquireOwn, Ended}
@@ -50,10 +54,7 @@ use Rattle.k_ipc.specs.declared.receive.ReceiveLocation.{ReceiveLocation}
 use Rattle.k_ipc.specs.declared.receive.ReceiveLocation.TheVariants as location
 use Rattle.k_ipc.specs.declared.receive.ReceiveSection.{ReceiveSection}
 use Rattle.k_ipc.specs.Candidates.{admitted, first_admitted, onward, past}
-use Rattle.k_ipc.specs.Hands.{Hand, nothing, no_lists, hand_with}
-use Rattle.k_locks.specs.Threads.{IsThread, runs}
-use Rattle.k_ipc.specs.SendTable.{alive_or_dead}
-use Rattle.k_ipc.specs.Words.{freed, in_state, is_joined_to, message_of, on_in, sender_of, sends_to}
+use Rattle.k_ipc.specs.Words.{alive_or_dead, freed, in_state, is_joined_to, on_in, sends_to}
 
 -- A location: what is held there, and which step comes.
 pub data ReceiveAt : Type 0 where
@@ -63,45 +64,41 @@ pub data ReceiveAt : Type 0 where
 
 -- THE STEP
 
+abbrev pub first_of : ReceiveCall → ReceiveAt
+first_of c = Outside (if is_own c.from c.caller then LoadCaller else AcquireOwn)
+
+abbrev pub ask_of : ReceiveCall → StateWord → ReceiveAt → Ask
+ask_of c own (Outside LoadCaller) = asks.Load c.caller.number
+ask_of c own (Outside AcquireOwn) = asks.Acquire (lock.Thread c.caller.number)
+ask_of c own (Locked LoadOwn) = asks.Load c.caller.number
+ask_of c own (Locked (LoadSender e)) = asks.Load (number_of e)
+ask_of c own (Locked (FreeSender e w)) = asks.Exchange (number_of e) w (freed c.caller w)
+ask_of c own (Locked (AcquireReady e)) = asks.Acquire lock.Ready
+ask_of c own (Pushing (LoadFreed e)) = asks.Load (number_of e)
+ask_of c own (Pushing (PushFreed e w)) = asks.Release lock.Ready
+ask_of c own (Locked CommitWait) = asks.Exchange c.caller.number own (in_state (state.Receiving c.from) own)
+ask_of c own (Locked (LoadPartner from)) = asks.Load from.number
+ask_of c own (Locked (CommitGone from)) = asks.Exchange c.caller.number own (in_state (state.Run result4.Gone) own)
+ask_of c own (Locked LoadPicking) = asks.Load c.caller.number
+ask_of c own (Locked (LoadNext e)) = asks.Load (number_of e)
+ask_of c own (Locked (FreeNext e w)) = asks.Exchange (number_of e) w (freed c.caller w)
+ask_of c own (Locked (EndPick e w)) = asks.Exchange c.caller.number own (on_in (state.Run result4.Plain) own)
+ask_of c own (Locked SettlePick) = asks.Exchange c.caller.number own (on_in (state.Receiving None) own)
+ask_of c own (Locked (Release r)) = asks.Release (lock.Thread c.caller.number)
+ask_of c own (Outside (Ended w)) = asks.Load c.caller.number  -- a section that is over isn't asked
+
 -- whether the thread whose message was taken still runs, so that it is put into a ready list
 abbrev pub is_pushed : SenderEntry → StateWord → Bool
 is_pushed e w = runs w.state && (w.version == (sender_of e).version)
 
--- What the releases put back: the queue, without the entry that was taken; the lists, with the sender at the end of the list
--- of its priority.
-abbrev pub queue_back : Hand → ReceiveRelease → Queue
-queue_back h (release.Taken e) = record h.queue { entries = without (number_of e) h.queue.entries }
-queue_back h release.Waits = h.queue
-queue_back h release.Delivered = h.queue
-queue_back h release.Gone = h.queue
-queue_back h release.Nobody = h.queue
-queue_back h release.Dead = h.queue
+-- What becomes of what is in hand, also of what goes home with a release: the entry that was taken leaves the queue, and its sender
+-- comes to the end of the list of its priority, if it still runs.
+abbrev pub hand_after : ReceiveCall → Hand → ReceiveAt → Response → Hand
+hand_after c h (Locked (Release (release.Taken e))) Released = record h { queue = record h.queue { entries = without (number_of e) h.queue.entries } }
+hand_after c h (Pushing (PushFreed e w)) Released = record h { lists = if is_pushed e w then pushed (sender_of e) w.priority h.lists else h.lists }
+hand_after c h p r = h
 
-abbrev pub lists_back : Hand → SenderEntry → StateWord → Ready
-lists_back h e w =
-    if is_pushed e w then with_list h.lists w.priority (list_of h.lists.lists w.priority ++ sender_of e ∷ []) else h.lists
-
-abbrev pub next_of : ReceiveCall → StateWord → Hand → ReceiveAt → Step
-next_of c own h (Outside LoadCaller) = step.Load (word.State c.caller.number)
-next_of c own h (Outside AcquireOwn) = step.Acquire (lock.Thread c.caller.number)
-next_of c own h (Locked LoadOwn) = step.Load (word.State c.caller.number)
-next_of c own h (Locked (LoadSender e)) = step.Load (word.State (sender_of e).number)
-next_of c own h (Locked (FreeSender e w)) = step.Exchange (word.State (sender_of e).number) (state_bits w) (state_bits (freed c.caller w))
-next_of c own h (Locked (AcquireReady e)) = step.Acquire lock.Ready
-next_of c own h (Pushing (LoadFreed e)) = step.Load (word.State (sender_of e).number)
-next_of c own h (Pushing (PushFreed e w)) = step.Release lock.Ready (goods.Ready (lists_back h e w))
-next_of c own h (Locked CommitWait) = step.Exchange (word.State c.caller.number) (state_bits own) (state_bits (in_state (state.Receiving c.from) own))
-next_of c own h (Locked (LoadPartner from)) = step.Load (word.State from.number)
-next_of c own h (Locked (CommitGone from)) = step.Exchange (word.State c.caller.number) (state_bits own) (state_bits (in_state (state.Run result4.Gone) own))
-next_of c own h (Locked LoadPicking) = step.Load (word.State c.caller.number)
-next_of c own h (Locked (LoadNext e)) = step.Load (word.State (sender_of e).number)
-next_of c own h (Locked (FreeNext e w)) = step.Exchange (word.State (sender_of e).number) (state_bits w) (state_bits (freed c.caller w))
-next_of c own h (Locked (EndPick e w)) = step.Exchange (word.State c.caller.number) (state_bits own) (state_bits (on_in (state.Run result4.Plain) own))
-next_of c own h (Locked SettlePick) = step.Exchange (word.State c.caller.number) (state_bits own) (state_bits (on_in (state.Receiving None) own))
-next_of c own h (Locked (Release r)) = step.Release (lock.Thread c.caller.number) (goods.Senders (queue_back h r))
-next_of c own h (Outside (Ended w)) = step.Load (word.State c.caller.number)  -- a section that is over isn't asked
-
--- WHERE AN ANSWER LEADS
+-- WHERE A RESPONSE LEADS
 
 -- Without a candidate the receive finds nobody, or begins to wait.
 abbrev pub none_left : ReceiveCall → ReceiveLocked
@@ -155,43 +152,35 @@ first_locked c = if c.picks then LoadPicking else LoadOwn
 abbrev pub candidates_after : ReceiveCall → Hand → SenderEntry → Option SenderEntry
 candidates_after c h e = first_admitted c.from (past (number_of e) h.queue.entries)
 
-abbrev pub resume_of : ReceiveCall → Hand → ReceiveAt → Answer → ReceiveAt
-resume_of c h (Outside LoadCaller) (Loaded n) = Outside (Ended (alive_or_dead (state_word_of n) (went.Ends reply.Own)))
-resume_of c h (Outside AcquireOwn) (Got g) = Locked (first_locked c)
-resume_of c h (Locked LoadOwn) (Loaded n) = Locked (if is_dead (state_word_of n) then Release release.Dead else try_sender c (first_admitted c.from h.queue.entries))
-resume_of c h (Locked (LoadSender e)) (Loaded n) = Locked (if still_waits c e (state_word_of n) then FreeSender e (state_word_of n) else try_sender c (candidates_after c h e))
-resume_of c h (Locked (FreeSender e w)) Won = Locked (after_free e w)
-resume_of c h (Locked (FreeSender e w)) (Lost n) = Locked (LoadSender e)
-resume_of c h (Locked (AcquireReady e)) (Got g) = Pushing (LoadFreed e)
-resume_of c h (Pushing (LoadFreed e)) (Loaded n) = Pushing (PushFreed e (state_word_of n))
-resume_of c h (Pushing (PushFreed e w)) Released = Locked (Release (release.Taken e))
-resume_of c h (Locked CommitWait) Won = Locked (after_wait c.from)
-resume_of c h (Locked (LoadPartner from)) (Loaded n) = Locked (if is_present_in (state_word_of n) from then Release release.Waits else CommitGone from)
-resume_of c h (Locked (CommitGone from)) Won = Locked (Release release.Gone)
-resume_of c h (Locked LoadPicking) (Loaded n) = Locked (picking_by (first_admitted c.from h.queue.entries) (state_word_of n).state)
-resume_of c h (Locked (LoadNext e)) (Loaded n) = Locked (if still_waits c e (state_word_of n) then FreeNext e (state_word_of n) else try_next (candidates_after c h e))
-resume_of c h (Locked (FreeNext e w)) Won = Locked (EndPick e w)
-resume_of c h (Locked (FreeNext e w)) (Lost n) = Locked (LoadNext e)
-resume_of c h (Locked (EndPick e w)) Won = Locked (after_free e w)
-resume_of c h (Locked SettlePick) Won = Locked (Release release.Waits)
-resume_of c h (Locked (Release r)) Released = Outside (Ended (released_end r))
-resume_of c h p a = p  -- a lock is owned: the same step again
+abbrev pub leads : ReceiveCall → Hand → ReceiveAt → Response → ReceiveAt
+leads c h (Outside LoadCaller) (Word w) = Outside (Ended (alive_or_dead w reply.Own))
+leads c h (Outside AcquireOwn) Got = Locked (first_locked c)
+leads c h (Locked LoadOwn) (Word w) = Locked (if is_dead w then Release release.Dead else try_sender c (first_admitted c.from h.queue.entries))
+leads c h (Locked (LoadSender e)) (Word w) = Locked (if still_waits c e w then FreeSender e w else try_sender c (candidates_after c h e))
+leads c h (Locked (FreeSender e w)) Won = Locked (after_free e w)
+leads c h (Locked (FreeSender e w)) (Lost v) = Locked (LoadSender e)
+leads c h (Locked (AcquireReady e)) Got = Pushing (LoadFreed e)
+leads c h (Pushing (LoadFreed e)) (Word w) = Pushing (PushFreed e w)
+leads c h (Pushing (PushFreed e w)) Released = Locked (Release (release.Taken e))
+leads c h (Locked CommitWait) Won = Locked (after_wait c.from)
+leads c h (Locked (LoadPartner from)) (Word w) = Locked (if is_present_in w from then Release release.Waits else CommitGone from)
+leads c h (Locked (CommitGone from)) Won = Locked (Release release.Gone)
+leads c h (Locked LoadPicking) (Word w) = Locked (picking_by (first_admitted c.from h.queue.entries) w.state)
+leads c h (Locked (LoadNext e)) (Word w) = Locked (if still_waits c e w then FreeNext e w else try_next (candidates_after c h e))
+leads c h (Locked (FreeNext e w)) Won = Locked (EndPick e w)
+leads c h (Locked (FreeNext e w)) (Lost v) = Locked (LoadNext e)
+leads c h (Locked (EndPick e w)) Won = Locked (after_free e w)
+leads c h (Locked SettlePick) Won = Locked (Release release.Waits)
+leads c h (Locked (Release r)) Released = Outside (Ended (released_end r))
+leads c h p r = p  -- a lock is owned: the same step again
 
 -- the caller's word, as the section knows it: its own exchanges change it
-abbrev pub own_of : ReceiveCall → StateWord → ReceiveAt → Answer → StateWord
+abbrev pub own_of : ReceiveCall → StateWord → ReceiveAt → Response → StateWord
 own_of c own (Locked CommitWait) Won = in_state (state.Receiving c.from) own
 own_of c own (Locked (CommitGone from)) Won = in_state (state.Run result4.Gone) own
 own_of c own (Locked (EndPick e w)) Won = on_in (state.Run result4.Plain) own
 own_of c own (Locked SettlePick) Won = on_in (state.Receiving None) own
-own_of c own p a = own
-
--- these exchanges are never lost: nobody else changes the caller's word while the caller's section holds its lock there
-abbrev pub never_lost : ReceiveAt → Bool
-never_lost (Locked CommitWait) = true
-never_lost (Locked (CommitGone from)) = true
-never_lost (Locked (EndPick e w)) = true
-never_lost (Locked SettlePick) = true
-never_lost p = false
+own_of c own p r = own
 
 -- How the section goes on: a push is told; and where the section comes to its end, that is told.
 abbrev pub pushed_at : ReceiveAt → Option ℕ
@@ -204,12 +193,12 @@ abbrev pub end_at : ReceiveAt → Went
 end_at (Outside (Ended w)) = w
 end_at p = went.On
 
-abbrev pub told : Option ℕ → ReceiveAt → Went
-told (Some priority) p = went.Pushed priority
-told None p = end_at p
+abbrev pub went_at : Option ℕ → ReceiveAt → Went
+went_at (Some priority) p = went.Pushed priority
+went_at None p = end_at p
 
-abbrev pub went_of : ReceiveCall → Hand → ReceiveAt → Answer → Went
-went_of c h p a = if is_again a then went.Again else told (pushed_at p) (resume_of c h p a)
+abbrev pub went_of : ReceiveCall → Hand → ReceiveAt → Response → Went
+went_of c h p r = if asks.is_again r then went.Again else went_at (pushed_at p) (leads c h p r)
 
 -- THE LINEARIZATION POINT
 
@@ -217,25 +206,25 @@ went_of c h p a = if is_again a then went.Again else told (pushed_at p) (resume_
 abbrev pub act_of : ReceiveCall → Act
 act_of c = if c.picks then act.Pick else act.Call (phase.Receive c.from c.zero)
 
-abbrev pub entry_by : ℕ → ReceiveCall → Act → Outcome → Entry
-entry_by serial c a o = record { event = record { who = c.caller; serial = serial; act = a }; outcome = o }
+abbrev pub point_by : ReceiveCall → Act → Outcome → Point
+point_by c a o = record { who = c.caller; act = a; outcome = o }
 
-abbrev pub nobody_left : ℕ → ReceiveCall → Option SenderEntry → Option Entry
-nobody_left serial c (Some e) = None
-nobody_left serial c None = if c.zero then Some (entry_by serial c (act_of c) outcome.Nobody) else None
+abbrev pub nobody_left : ReceiveCall → Option SenderEntry → Option Point
+nobody_left c (Some e) = None
+nobody_left c None = if c.zero then Some (point_by c (act_of c) outcome.Nobody) else None
 
--- The entry that a step appends to the history, if any. `serial` is the number of the caller's call. A caller that was destroyed
--- decides nothing: the first load tells it, and nobody destroys a thread whose lock is held.
-abbrev pub decides : ℕ → ReceiveCall → Hand → ReceiveAt → Answer → Option Entry
-decides serial c h (Outside LoadCaller) (Loaded n) = if is_dead (state_word_of n) then None else Some (entry_by serial c (act_of c) outcome.Own)
-decides serial c h (Locked LoadOwn) (Loaded n) = if is_dead (state_word_of n) then None else nobody_left serial c (first_admitted c.from h.queue.entries)
-decides serial c h (Locked (LoadSender e)) (Loaded n) = if still_waits c e (state_word_of n) then None else nobody_left serial c (candidates_after c h e)
-decides serial c h (Locked (FreeSender e w)) Won = Some (entry_by serial c (act_of c) (outcome.Took (sender_of e) (message_of e)))
-decides serial c h (Locked CommitWait) Won = Some (entry_by serial c (act_of c) outcome.Waits)
-decides serial c h (Locked (LoadPartner from)) (Loaded n) = if is_present_in (state_word_of n) from then None else Some (entry_by serial c act.Gone outcome.Freed)
-decides serial c h (Locked (FreeNext e w)) Won = Some (entry_by serial c (act_of c) (outcome.Took (sender_of e) (message_of e)))
-decides serial c h (Locked SettlePick) Won = Some (entry_by serial c (act_of c) outcome.Waits)
-decides serial c h p a = None
+-- The event that a step appends to the history, if any. A caller that was destroyed decides nothing: the first load tells it, and
+-- nobody destroys a thread whose lock is held.
+abbrev pub points : ReceiveCall → StateWord → Hand → ReceiveAt → Response → Option Point
+points c caller h (Outside LoadCaller) (Word w) = if is_dead w then None else Some (point_by c (act_of c) outcome.Own)
+points c caller h (Locked LoadOwn) (Word w) = if is_dead w then None else nobody_left c (first_admitted c.from h.queue.entries)
+points c caller h (Locked (LoadSender e)) (Word w) = if still_waits c e w then None else nobody_left c (candidates_after c h e)
+points c caller h (Locked (FreeSender e w)) Won = Some (point_by c (act_of c) (outcome.Took (sender_of e) (message_of e)))
+points c caller h (Locked CommitWait) Won = Some (point_by c (act_of c) outcome.Waits)
+points c caller h (Locked (LoadPartner from)) (Word w) = if is_present_in w from then None else Some (point_by c act.Gone outcome.Freed)
+points c caller h (Locked (FreeNext e w)) Won = Some (point_by c (act_of c) (outcome.Took (sender_of e) (message_of e)))
+points c caller h (Locked SettlePick) Won = Some (point_by c (act_of c) outcome.Waits)
+points c caller h p r = None
 
 -- LOCKS, AND STEPS LEFT
 
@@ -308,11 +297,63 @@ rest_of c h there p (lock.Thread number) = if number == c.caller.number then res
 rest_of c h there p lock.Ready = left_ready p
 rest_of c h there p lock.Table = 0
 
+-- the number whose word was loaded
+abbrev pub seen_of : ReceiveAt → Option ℕ
+seen_of (Locked (FreeSender e w)) = Some (number_of e)
+seen_of (Locked (FreeNext e w)) = Some (number_of e)
+seen_of p = None
+
 -- how many lost exchanges `left_thread` counts
 abbrev pub counted : ReceiveAt → ℕ
 counted (Locked (FreeSender e w)) = 1
 counted (Locked (FreeNext e w)) = 1
 counted p = 0
+
+-- What is never answered: that an exchange of the caller's own word is lost, since nobody else changes it while the caller's section
+-- holds its lock there; and a queue in which a number stands twice.
+abbrev pub IsAllowed : Hand → ReceiveAt → Response → Type 0
+IsAllowed h (Outside AcquireOwn) r = IsOnceEach h.queue.entries
+IsAllowed h (Locked CommitWait) r = is_lost r ≡ false
+IsAllowed h (Locked (CommitGone from)) r = is_lost r ≡ false
+IsAllowed h (Locked (EndPick e w)) r = is_lost r ≡ false
+IsAllowed h (Locked SettlePick) r = is_lost r ≡ false
+IsAllowed h p r = Unit {0}
+
+-- The entry that it has chosen is in the queue in hand, and its sender is one that it admits.
+pub record IsCandidate (c : ReceiveCall) (queue : Queue) (e : SenderEntry) : Type 0 where
+  pub standing : entry_of (number_of e) queue.entries ≡ Some e
+  pub wanted : admits c.from (sender_of e) ≡ true
+
+-- The entry that is tried is a candidate of the queue.
+abbrev pub IsChosen : ReceiveCall → Queue → ReceiveLocked → Type 0
+IsChosen c queue (LoadSender e) = IsCandidate c queue e
+IsChosen c queue (FreeSender e w) = IsCandidate c queue e
+IsChosen c queue (LoadNext e) = IsCandidate c queue e
+IsChosen c queue (FreeNext e w) = IsCandidate c queue e
+IsChosen c queue p = Unit {0}
+
+-- What `left` takes for granted: each number has one entry in the queue in hand.
+abbrev pub IsCounted : ReceiveCall → Hand → ReceiveAt → Type 0
+IsCounted c h (Outside p) = Unit {0}
+IsCounted c h (Locked p) = IsOnceEach h.queue.entries × IsChosen c h.queue p
+IsCounted c h (Pushing p) = IsOnceEach h.queue.entries
+
+abbrev pub receive_table : ReceiveCall → Table ReceiveAt
+receive_table c = record {
+  first = first_of c;
+  ask = ask_of c;
+  leads = leads c;
+  hand = hand_after c;
+  own = own_of c;
+  locks = locks_of c;
+  left = left_of c;
+  stays = λ p. false;
+  counted = counted;
+  rest = rest_of c;
+  seen = seen_of;
+  Allows = IsAllowed;
+  Fits = IsCounted c;
+}
 
 -- THE SECTION, as a location with what is in hand
 
@@ -325,9 +366,9 @@ at_of (location.QueueReturned r) = Locked (Release r)
 
 abbrev pub hand_of : ReceiveLocation → Hand
 hand_of (location.Outside p) = nothing
-hand_of (location.Locked p queue) = record { queue = queue; lists = no_lists }
-hand_of (location.Pushing p queue lists) = record { queue = queue; lists = lists }
-hand_of (location.ListsReturned e w queue) = record { queue = queue; lists = no_lists }
+hand_of (location.Locked p queue) = record nothing { queue = queue }
+hand_of (location.Pushing p queue lists) = record nothing { queue = queue; lists = lists }
+hand_of (location.ListsReturned e w queue) = record nothing { queue = queue }
 hand_of (location.QueueReturned r) = nothing
 
 abbrev pub location_with : Hand → ReceiveAt → ReceiveLocation
@@ -368,7 +409,11 @@ asked_location (location.QueueReturned r) = location.QueueReturned r
 
 -- A section at its first location.
 abbrev pub receive_of : ReceiveCall → StateWord → ReceiveSection
-receive_of c own = record { call = c; own = own; location = location.Outside (if is_own c.from c.caller then LoadCaller else AcquireOwn); done = 0 }
+receive_of c own = record { call = c; own = own; location = location_with nothing (first_of c); done = 0 }
+
+-- the step of a location on words as bits, with what goes home
+abbrev pub next_of : ReceiveCall → StateWord → Hand → ReceiveAt → Step
+next_of c own h p = step_for (ask_of c own p) (hand_after c h p Released)
 
 abbrev pub step_of : ReceiveSection → Step
 step_of s = next_of s.call s.own (hand_of s.location) (at_of s.location)
@@ -376,11 +421,15 @@ step_of s = next_of s.call s.own (hand_of s.location) (at_of s.location)
 abbrev pub asked : ReceiveSection → ReceiveSection
 asked s = record s { location = asked_location s.location }
 
+-- what an answer tells the section
+abbrev pub heard : ReceiveSection → Answer → Response
+heard s a = response_of a (ask_of s.call s.own (at_of s.location))
+
 -- the section after an answer
 abbrev pub moved : ReceiveSection → Answer → ReceiveSection
 moved s a = record s {
-  own = own_of s.call s.own (at_of s.location) a;
-  location = location_with (hand_with a (hand_of s.location)) (resume_of s.call (hand_of s.location) (at_of s.location) a);
+  own = own_of s.call s.own (at_of s.location) (heard s a);
+  location = location_with (hand_with a (hand_after s.call (hand_of s.location) (at_of s.location) (heard s a))) (leads s.call (hand_of s.location) (at_of s.location) (heard s a));
   done = one_more s.done;
 }
 
@@ -406,11 +455,6 @@ can_ask (location.Locked p queue) = true
 can_ask (location.Pushing p queue lists) = true
 can_ask (location.ListsReturned e w queue) = false
 can_ask (location.QueueReturned r) = false
-
--- The entry that it has chosen is in the queue in hand, and its sender is one that it admits.
-pub record IsCandidate (c : ReceiveCall) (queue : Queue) (e : SenderEntry) : Type 0 where
-  pub standing : entry_of (number_of e) queue.entries ≡ Some e
-  pub wanted : admits c.from (sender_of e) ≡ true
 
 -- a candidate whose word was loaded, and shows that its sender waits
 pub record IsWaiting (c : ReceiveCall) (queue : Queue) (e : SenderEntry) (w : StateWord) : Type 0 where
@@ -445,11 +489,11 @@ pub record IsSound (s : ReceiveSection) : Type 0 where
   pub located : IsSoundLocation s.call s.location
 
 -- The number of the thread to be put into a ready list is in none.
-abbrev pub CanPush : Hand → ReceiveAt → Type 0
-CanPush h (Pushing (PushFreed e w)) = is_pushed e w ≡ true → IsInNone (sender_of e).number h.lists.lists
-CanPush h p = Unit {0}
+abbrev pub CanPush : ReceiveCall → Hand → ReceiveAt → Type 0
+CanPush c h (Pushing (PushFreed e w)) = is_pushed e w ≡ true → IsInNone (number_of e) h.lists.lists
+CanPush c h p = Unit {0}
 
 -- A state word in the answer is a spelling.
-abbrev pub IsReadable : Answer → Type 0
-IsReadable (Loaded n) = IsStateSpelling n
-IsReadable a = Unit {0}
+abbrev pub IsFit : ReceiveAt → Answer → Type 0
+IsFit p (answer.Told (told.Loaded n)) = IsStateSpelling n
+IsFit p a = Unit {0}

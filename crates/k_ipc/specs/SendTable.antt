@@ -1,6 +1,6 @@
--- The section of a send, location by location: its step, where each answer leads, which entry it appends to the history, which
--- locks it holds, and how many steps are left until a lock is released. The locations stand in the order in which a
--- send comes to them.
+-- The section of a send, location by location: what it asks for, where each response leads, what becomes of what is in hand, which
+-- event it appends to the history, which locks it holds, and how many steps are left until a lock is released. The locations stand
+-- in the order in which a send comes to them.
 --
 -- The send is of `c.caller` to `c.to`. `own` is the caller's state word as the section knows it, and `h` is what is in hand.
 use Rattle.std.specs.Prelude.{ℕ, ◌==◌, ◌<◌, Bool, true, false, not, if◌then◌else◌, Option, Some, None, List, [], ◌∷◌, ◌++◌}
@@ -11,27 +11,30 @@ use Rattle.k_ids.specs.declared.calls.Reply.TheVariants as reply
 use Rattle.k_ids.specs.declared.calls.Act.TheVariants as act
 use Rattle.k_ids.specs.declared.calls.Outcome.{Outcome}
 use Rattle.k_ids.specs.declared.calls.Outcome.TheVariants as outcome
-use Rattle.k_ids.specs.declared.histories.Entry.{Entry}
 use Rattle.k_ids.specs.declared.state_word.Result4.TheVariants as result4
 use Rattle.k_ids.specs.declared.state_word.State.TheVariants as state
 use Rattle.k_ids.specs.declared.state_word.StateWord.{StateWord}
-use Rattle.k_ids.specs.Messages.{message_bits}
-use Rattle.k_ids.specs.StateWords.{IsPartner, IsStateSpelling, state_bits, state_word_of}
+use Rattle.k_ids.specs.StateWords.{IsPartner, IsStateSpelling, state_word_of}
 use Rattle.k_model.specs.State.{same_id, takes_from}
-use Rattle.k_ready.specs.Lists.{IsInNone, Ready, list_of, with_list}
+use Rattle.k_ready.specs.Lists.{IsInNone}
+use Rattle.k_senders.specs.Entries.{entry_for}
 use Rattle.k_senders.specs.Queue.{Queue}
 use Rattle.k_locks.specs.declared.locks.Lock.{Lock}
 use Rattle.k_locks.specs.declared.locks.Lock.TheVariants as lock
-use Rattle.k_locks.specs.declared.locks.WordName.TheVariants as word
-use Rattle.k_locks.specs.declared.goods.Goods.TheVariants as goods
+use Rattle.k_locks.specs.declared.points.Point.{Point}
 use Rattle.k_locks.specs.declared.steps.Step.{Step}
-use Rattle.k_locks.specs.declared.steps.Step.TheVariants as step
 use Rattle.k_locks.specs.declared.steps.Answer.{Answer}
-use Rattle.k_locks.specs.declared.steps.Answer.TheVariants.{Loaded, Stored, Won, Lost, Got, Released}
+use Rattle.k_locks.specs.declared.steps.Answer.TheVariants as answer
+use Rattle.k_locks.specs.declared.steps.Told.TheVariants as told
 use Rattle.k_locks.specs.declared.steps.Went.{Went}
 use Rattle.k_locks.specs.declared.steps.Went.TheVariants as went
+use Rattle.k_locks.specs.Asks as asks
+use Rattle.k_locks.specs.Asks.{Ask, Response, Word, Stored, Won, Lost, Got, Released, response_of, step_for}
+use Rattle.k_locks.specs.Hands.{Hand, nothing, hand_with, pushed}
 use Rattle.k_locks.specs.Shown.{found_in, is_dead, is_present_in, shows}
 use Rattle.k_locks.specs.Steps.{is_again, one_more}
+use Rattle.k_locks.specs.Tables.{Table}
+use Rattle.k_locks.specs.Threads.{IsThread}
 use Rattle.k_ipc.specs.declared.send.Manner.{Manner}
 use Rattle.k_ipc.specs.declared.send.Manner.TheVariants as manner
 use Rattle.k_ipc.specs.declared.send.SendCall.{SendCall}
@@ -39,16 +42,13 @@ use Rattle.k_ipc.specs.declared.send.SendOutside.{SendOutside}
 use Rattle.k_ipc.specs.declared.send.SendOutside.TheVariants.{LoadCaller, AcquireReceiver, CheckCaller, Ended}
 use Rattle.k_ipc.specs.declared.send.SendLocked.{SendLocked}
 use Rattle.k_ipc.specs.declared.send.SendLocked.TheVariants.{LoadReceiver, StoreMail, CommitPass, WakeReceiver, ReloadReceiver, AcquireReady, CommitWait, Release}
-use Rattle.k_ipc.specs.declared.send.SendRelease.{SendRelease}
 use Rattle.k_ipc.specs.declared.send.SendRelease.TheVariants as release
 use Rattle.k_ipc.specs.declared.send.SendPushing.{SendPushing}
 use Rattle.k_ipc.specs.declared.send.SendPushing.TheVariants.{PushReceiver}
 use Rattle.k_ipc.specs.declared.send.SendLocation.{SendLocation}
 use Rattle.k_ipc.specs.declared.send.SendLocation.TheVariants as location
 use Rattle.k_ipc.specs.declared.send.SendSection.{SendSection}
-use Rattle.k_ipc.specs.Hands.{Hand, IsRoom, nothing, no_lists, hand_with}
-use Rattle.k_locks.specs.Threads.{IsThread}
-use Rattle.k_ipc.specs.Words.{entry_for, in_state, on_in}
+use Rattle.k_ipc.specs.Words.{IsRoom, alive_or_dead, in_state, on_in}
 
 -- A location: what is held there, and which step comes.
 pub data SendAt : Type 0 where
@@ -79,33 +79,32 @@ delivered_word c w = on_in (state.Run (result4.Delivered c.caller)) w
 
 -- THE STEP
 
--- What the releases put back: the queue, with the caller at its end where it waits; the lists, with the receiver at the end of
--- the list of its priority.
-abbrev pub queue_back : SendCall → Hand → SendRelease → Queue
-queue_back c h release.Queued = record h.queue { entries = h.queue.entries ++ entry_for c.caller c.message ∷ [] }
-queue_back c h release.Passed = h.queue
-queue_back c h release.Dead = h.queue
-queue_back c h (release.Refused r) = h.queue
+abbrev pub first_of : SendCall → SendAt
+first_of c = Outside (if same_id c.to c.caller then LoadCaller else AcquireReceiver)
 
-abbrev pub lists_back : SendCall → Hand → ℕ → Ready
-lists_back c h priority = with_list h.lists priority (list_of h.lists.lists priority ++ c.to ∷ [])
+abbrev pub ask_of : SendCall → StateWord → SendAt → Ask
+ask_of c own (Outside LoadCaller) = asks.Load c.caller.number
+ask_of c own (Outside AcquireReceiver) = asks.Acquire (lock.Thread c.to.number)
+ask_of c own (Locked LoadReceiver) = asks.Load c.to.number
+ask_of c own (Locked (StoreMail w)) = asks.Post c.to.number c.message
+ask_of c own (Locked (CommitPass w)) = asks.Exchange c.caller.number own (passed_word c.manner c.to own)
+ask_of c own (Locked (WakeReceiver w)) = asks.Exchange c.to.number w (delivered_word c w)
+ask_of c own (Locked ReloadReceiver) = asks.Load c.to.number
+ask_of c own (Locked (AcquireReady priority)) = asks.Acquire lock.Ready
+ask_of c own (Pushing (PushReceiver priority)) = asks.Release lock.Ready
+ask_of c own (Locked (Release r)) = asks.Release (lock.Thread c.to.number)
+ask_of c own (Outside (CheckCaller r)) = asks.Load c.caller.number
+ask_of c own (Locked CommitWait) = asks.Exchange c.caller.number own (waiting_word c own)
+ask_of c own (Outside (Ended w)) = asks.Load c.caller.number  -- a section that is over isn't asked
 
-abbrev pub next_of : SendCall → StateWord → Hand → SendAt → Step
-next_of c own h (Outside LoadCaller) = step.Load (word.State c.caller.number)
-next_of c own h (Outside AcquireReceiver) = step.Acquire (lock.Thread c.to.number)
-next_of c own h (Locked LoadReceiver) = step.Load (word.State c.to.number)
-next_of c own h (Locked (StoreMail w)) = step.Store (word.Mail c.to.number) (message_bits c.message)
-next_of c own h (Locked (CommitPass w)) = step.Exchange (word.State c.caller.number) (state_bits own) (state_bits (passed_word c.manner c.to own))
-next_of c own h (Locked (WakeReceiver w)) = step.Exchange (word.State c.to.number) (state_bits w) (state_bits (delivered_word c w))
-next_of c own h (Locked ReloadReceiver) = step.Load (word.State c.to.number)
-next_of c own h (Locked (AcquireReady priority)) = step.Acquire lock.Ready
-next_of c own h (Pushing (PushReceiver priority)) = step.Release lock.Ready (goods.Ready (lists_back c h priority))
-next_of c own h (Locked (Release r)) = step.Release (lock.Thread c.to.number) (goods.Senders (queue_back c h r))
-next_of c own h (Outside (CheckCaller r)) = step.Load (word.State c.caller.number)
-next_of c own h (Locked CommitWait) = step.Exchange (word.State c.caller.number) (state_bits own) (state_bits (waiting_word c own))
-next_of c own h (Outside (Ended w)) = step.Load (word.State c.caller.number)  -- a section that is over isn't asked
+-- What becomes of what is in hand, also of what goes home with a release: the caller comes to the end of the queue where it waits,
+-- the receiver to the end of the list of its priority.
+abbrev pub hand_after : SendCall → Hand → SendAt → Response → Hand
+hand_after c h (Locked (Release release.Queued)) Released = record h { queue = record h.queue { entries = h.queue.entries ++ entry_for c.caller c.message ∷ [] } }
+hand_after c h (Pushing (PushReceiver priority)) Released = record h { lists = pushed c.to priority h.lists }
+hand_after c h p r = h
 
--- WHERE AN ANSWER LEADS
+-- WHERE A RESPONSE LEADS
 
 -- the receiver's word tells whether the message passes, is refused, or waits
 abbrev pub after_receiver : SendCall → StateWord → SendLocked
@@ -120,35 +119,32 @@ passed_end manner.Plain = went.Ends reply.Sent
 passed_end manner.Joined = went.Waits
 passed_end manner.Reply = went.Picks
 
-abbrev pub alive_or_dead : StateWord → Went → Went
-alive_or_dead w alive = if is_dead w then went.CallerDead else alive
-
-abbrev pub resume_of : SendCall → SendAt → Answer → SendAt
-resume_of c (Outside LoadCaller) (Loaded n) = Outside (Ended (alive_or_dead (state_word_of n) (went.Ends reply.Own)))
-resume_of c (Outside AcquireReceiver) (Got g) = Locked LoadReceiver
-resume_of c (Locked LoadReceiver) (Loaded n) = Locked (after_receiver c (state_word_of n))
-resume_of c (Locked (StoreMail w)) Stored = Locked (CommitPass w)
-resume_of c (Locked (CommitPass w)) Won = Locked (WakeReceiver w)
-resume_of c (Locked (CommitPass w)) (Lost n) = Locked (Release release.Dead)
-resume_of c (Locked (WakeReceiver w)) Won = Locked (if w.on then Release release.Passed else AcquireReady w.priority)
-resume_of c (Locked (WakeReceiver w)) (Lost n) = Locked ReloadReceiver
-resume_of c (Locked ReloadReceiver) (Loaded n) = Locked (WakeReceiver (state_word_of n))
-resume_of c (Locked (AcquireReady priority)) (Got g) = Pushing (PushReceiver priority)
-resume_of c (Pushing (PushReceiver priority)) Released = Locked (Release release.Passed)
-resume_of c (Locked (Release release.Passed)) Released = Outside (Ended (passed_end c.manner))
-resume_of c (Locked (Release release.Dead)) Released = Outside (Ended went.CallerDead)
-resume_of c (Locked (Release (release.Refused r))) Released = Outside (CheckCaller r)
-resume_of c (Outside (CheckCaller r)) (Loaded n) = Outside (Ended (alive_or_dead (state_word_of n) (went.Ends r)))
-resume_of c (Locked CommitWait) Won = Locked (Release release.Queued)
-resume_of c (Locked CommitWait) (Lost n) = Locked (Release release.Dead)
-resume_of c (Locked (Release release.Queued)) Released = Outside (Ended went.Waits)
-resume_of c p a = p  -- a lock is owned: the same step again
+abbrev pub leads : SendCall → Hand → SendAt → Response → SendAt
+leads c h (Outside LoadCaller) (Word w) = Outside (Ended (alive_or_dead w reply.Own))
+leads c h (Outside AcquireReceiver) Got = Locked LoadReceiver
+leads c h (Locked LoadReceiver) (Word w) = Locked (after_receiver c w)
+leads c h (Locked (StoreMail w)) Stored = Locked (CommitPass w)
+leads c h (Locked (CommitPass w)) Won = Locked (WakeReceiver w)
+leads c h (Locked (CommitPass w)) (Lost v) = Locked (Release release.Dead)
+leads c h (Locked (WakeReceiver w)) Won = Locked (if w.on then Release release.Passed else AcquireReady w.priority)
+leads c h (Locked (WakeReceiver w)) (Lost v) = Locked ReloadReceiver
+leads c h (Locked ReloadReceiver) (Word w) = Locked (WakeReceiver w)
+leads c h (Locked (AcquireReady priority)) Got = Pushing (PushReceiver priority)
+leads c h (Pushing (PushReceiver priority)) Released = Locked (Release release.Passed)
+leads c h (Locked (Release release.Passed)) Released = Outside (Ended (passed_end c.manner))
+leads c h (Locked (Release release.Dead)) Released = Outside (Ended went.CallerDead)
+leads c h (Locked (Release (release.Refused r))) Released = Outside (CheckCaller r)
+leads c h (Outside (CheckCaller r)) (Word w) = Outside (Ended (alive_or_dead w r))
+leads c h (Locked CommitWait) Won = Locked (Release release.Queued)
+leads c h (Locked CommitWait) (Lost v) = Locked (Release release.Dead)
+leads c h (Locked (Release release.Queued)) Released = Outside (Ended went.Waits)
+leads c h p r = p  -- a lock is owned: the same step again
 
 -- the caller's word, as the section knows it: its own exchanges change it
-abbrev pub own_of : SendCall → StateWord → SendAt → Answer → StateWord
+abbrev pub own_of : SendCall → StateWord → SendAt → Response → StateWord
 own_of c own (Locked (CommitPass w)) Won = passed_word c.manner c.to own
 own_of c own (Locked CommitWait) Won = waiting_word c own
-own_of c own p a = own
+own_of c own p r = own
 
 -- How the section goes on: a push is told; and where the section comes to its end, that is told.
 abbrev pub pushed_at : SendAt → Option ℕ
@@ -160,12 +156,12 @@ abbrev pub end_at : SendAt → Went
 end_at (Outside (Ended w)) = w
 end_at p = went.On
 
-abbrev pub told : Option ℕ → SendAt → Went
-told (Some priority) p = went.Pushed priority
-told None p = end_at p
+abbrev pub went_at : Option ℕ → SendAt → Went
+went_at (Some priority) p = went.Pushed priority
+went_at None p = end_at p
 
-abbrev pub went_of : SendCall → SendAt → Answer → Went
-went_of c p a = if is_again a then went.Again else told (pushed_at p) (resume_of c p a)
+abbrev pub went_of : SendCall → Hand → SendAt → Response → Went
+went_of c h p r = if asks.is_again r then went.Again else went_at (pushed_at p) (leads c h p r)
 
 -- THE LINEARIZATION POINT
 
@@ -174,25 +170,25 @@ phase_by c manner.Plain = phase.Send c.to c.message c.zero false
 phase_by c manner.Joined = phase.Send c.to c.message c.zero true
 phase_by c manner.Reply = phase.Reply c.to c.message c.zero
 
-abbrev pub entry_of : ℕ → SendCall → Outcome → Entry
-entry_of serial c o = record { event = record { who = c.caller; serial = serial; act = act.Call (phase_by c c.manner) }; outcome = o }
+abbrev pub point_of : SendCall → Outcome → Point
+point_of c o = record { who = c.caller; act = act.Call (phase_by c c.manner); outcome = o }
 
 -- what the receiver's word decides: a refusal, or nothing yet
-abbrev pub refusal_of : ℕ → SendCall → StateWord → Option Entry
-refusal_of serial c w =
-    if not (is_present_in w c.to) then Some (entry_of serial c (outcome.Absent (found_in c.to.number w)))
+abbrev pub refusal_of : SendCall → StateWord → Option Point
+refusal_of c w =
+    if not (is_present_in w c.to) then Some (point_of c (outcome.Absent (found_in c.to.number w)))
     else (if takes_from (shows w.state) c.caller c.zero then None
-    else (if c.zero then Some (entry_of serial c (outcome.Busy (found_in c.to.number w)))
+    else (if c.zero then Some (point_of c (outcome.Busy (found_in c.to.number w)))
     else None))
 
--- The entry that a step appends to the history, if any. `serial` is the number of the caller's call, and `caller` is the
--- caller's state word at this very step. A caller that was destroyed decides nothing.
-abbrev pub decides : ℕ → StateWord → SendCall → SendAt → Answer → Option Entry
-decides serial caller c (Outside LoadCaller) (Loaded n) = if is_dead (state_word_of n) then None else Some (entry_of serial c outcome.Own)
-decides serial caller c (Locked LoadReceiver) (Loaded n) = if is_dead caller then None else refusal_of serial c (state_word_of n)
-decides serial caller c (Locked (CommitPass w)) Won = Some (entry_of serial c outcome.Passed)
-decides serial caller c (Locked CommitWait) Won = Some (entry_of serial c outcome.Waits)
-decides serial caller c p a = None
+-- The event that a step appends to the history, if any. `caller` is the caller's state word at this very step. A caller that was
+-- destroyed decides nothing.
+abbrev pub points : SendCall → StateWord → Hand → SendAt → Response → Option Point
+points c caller h (Outside LoadCaller) (Word w) = if is_dead w then None else Some (point_of c outcome.Own)
+points c caller h (Locked LoadReceiver) (Word w) = if is_dead caller then None else refusal_of c w
+points c caller h (Locked (CommitPass w)) Won = Some (point_of c outcome.Passed)
+points c caller h (Locked CommitWait) Won = Some (point_of c outcome.Waits)
+points c caller h p r = None
 
 -- LOCKS, AND STEPS LEFT
 
@@ -226,10 +222,10 @@ left_ready (Pushing (PushReceiver priority)) = 1
 left_ready (Locked p) = 0
 left_ready (Outside p) = 0
 
-abbrev pub left_of : SendCall → SendAt → Lock → ℕ
-left_of c p (lock.Thread number) = if number == c.to.number then left_thread p else 0
-left_of c p lock.Ready = left_ready p
-left_of c p lock.Table = 0
+abbrev pub left_of : SendCall → Hand → SendAt → Lock → ℕ
+left_of c h p (lock.Thread number) = if number == c.to.number then left_thread p else 0
+left_of c h p lock.Ready = left_ready p
+left_of c h p lock.Table = 0
 
 -- The same, where it is told whether the receiver's word that was loaded is still there. So it falls with each step.
 abbrev pub rest_thread : Bool → SendAt → ℕ
@@ -238,10 +234,17 @@ rest_thread there (Locked (CommitPass w)) = if there then 5 else 7
 rest_thread there (Locked (WakeReceiver w)) = if there then 4 else 6
 rest_thread there p = left_thread p
 
-abbrev pub rest_of : SendCall → Bool → SendAt → Lock → ℕ
-rest_of c there p (lock.Thread number) = if number == c.to.number then rest_thread there p else 0
-rest_of c there p lock.Ready = left_ready p
-rest_of c there p lock.Table = 0
+abbrev pub rest_of : SendCall → Hand → Bool → SendAt → Lock → ℕ
+rest_of c h there p (lock.Thread number) = if number == c.to.number then rest_thread there p else 0
+rest_of c h there p lock.Ready = left_ready p
+rest_of c h there p lock.Table = 0
+
+-- the number whose word was loaded
+abbrev pub seen_of : SendCall → SendAt → Option ℕ
+seen_of c (Locked (StoreMail w)) = Some c.to.number
+seen_of c (Locked (CommitPass w)) = Some c.to.number
+seen_of c (Locked (WakeReceiver w)) = Some c.to.number
+seen_of c p = None
 
 -- whether `left_thread` takes it that the loaded word is still there: a receiver that is off doesn't fall asleep
 abbrev pub stays : SendAt → Bool
@@ -256,6 +259,23 @@ counted (Locked (CommitPass w)) = if w.on then 1 else 0
 counted (Locked (WakeReceiver w)) = 1
 counted p = 0
 
+abbrev pub send_table : SendCall → Table SendAt
+send_table c = record {
+  first = first_of c;
+  ask = ask_of c;
+  leads = leads c;
+  hand = hand_after c;
+  own = own_of c;
+  locks = locks_of c;
+  left = left_of c;
+  stays = stays;
+  counted = counted;
+  rest = rest_of c;
+  seen = seen_of c;
+  Allows = λ h p r. Unit {0};
+  Fits = λ h p. Unit {0};
+}
+
 -- THE SECTION, as a location with what is in hand
 
 abbrev pub at_of : SendLocation → SendAt
@@ -267,9 +287,9 @@ at_of (location.QueueReturned r) = Locked (Release r)
 
 abbrev pub hand_of : SendLocation → Hand
 hand_of (location.Outside p) = nothing
-hand_of (location.Locked p queue) = record { queue = queue; lists = no_lists }
-hand_of (location.Pushing p queue lists) = record { queue = queue; lists = lists }
-hand_of (location.ListsReturned p queue) = record { queue = queue; lists = no_lists }
+hand_of (location.Locked p queue) = record nothing { queue = queue }
+hand_of (location.Pushing p queue lists) = record nothing { queue = queue; lists = lists }
+hand_of (location.ListsReturned p queue) = record nothing { queue = queue }
 hand_of (location.QueueReturned r) = nothing
 
 abbrev pub location_with : Hand → SendAt → SendLocation
@@ -310,7 +330,11 @@ manner_of joined = if joined then manner.Joined else manner.Plain
 
 -- A section at its first location.
 abbrev pub send_of : SendCall → StateWord → SendSection
-send_of c own = record { call = c; own = own; location = location.Outside (if same_id c.to c.caller then LoadCaller else AcquireReceiver); done = 0 }
+send_of c own = record { call = c; own = own; location = location_with nothing (first_of c); done = 0 }
+
+-- the step of a location on words as bits, with what goes home
+abbrev pub next_of : SendCall → StateWord → Hand → SendAt → Step
+next_of c own h p = step_for (ask_of c own p) (hand_after c h p Released)
 
 abbrev pub step_of : SendSection → Step
 step_of s = next_of s.call s.own (hand_of s.location) (at_of s.location)
@@ -318,11 +342,15 @@ step_of s = next_of s.call s.own (hand_of s.location) (at_of s.location)
 abbrev pub asked : SendSection → SendSection
 asked s = record s { location = asked_location s.location }
 
+-- what an answer tells the section
+abbrev pub heard : SendSection → Answer → Response
+heard s a = response_of a (ask_of s.call s.own (at_of s.location))
+
 -- the section after an answer
 abbrev pub moved : SendSection → Answer → SendSection
 moved s a = record s {
-  own = own_of s.call s.own (at_of s.location) a;
-  location = location_with (hand_with a (hand_of s.location)) (resume_of s.call (at_of s.location) a);
+  own = own_of s.call s.own (at_of s.location) (heard s a);
+  location = location_with (hand_with a (hand_after s.call (hand_of s.location) (at_of s.location) (heard s a))) (leads s.call (hand_of s.location) (at_of s.location) (heard s a));
   done = one_more s.done;
 }
 
@@ -373,7 +401,7 @@ CanPush c h (Pushing (PushReceiver priority)) = IsInNone c.to.number h.lists.lis
 CanPush c h p = Unit {0}
 
 -- a state word in the answer is a spelling, and of a thread where the section makes another word of it
-abbrev pub IsReadable : SendAt → Answer → Type 0
-IsReadable (Locked ReloadReceiver) (Loaded n) = IsStateSpelling n × IsThread (state_word_of n)
-IsReadable p (Loaded n) = IsStateSpelling n
-IsReadable p a = Unit {0}
+abbrev pub IsFit : SendAt → Answer → Type 0
+IsFit (Locked ReloadReceiver) (answer.Told (told.Loaded n)) = IsStateSpelling n × IsThread (state_word_of n)
+IsFit p (answer.Told (told.Loaded n)) = IsStateSpelling n
+IsFit p a = Unit {0}

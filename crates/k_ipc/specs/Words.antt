@@ -1,16 +1,17 @@
--- Changes of state words by a send or a receive, and the entries of queues.
-use Rattle.std.specs.Prelude.{ℕ, ◌+◌, ◌*◌, ◌/◌, ◌%◌, ◌^◌, ◌≤◌, ◌≡◌, Bool, true, false, if◌then◌else◌, Some}
+-- Changes of state words by a send or a receive, and what its steps ask of words and queues.
+use Rattle.std.specs.Prelude.{ℕ, ◌<◌, ◌≡◌, Bool, true, false, if◌then◌else◌, Some, length}
+use Rattle.k_ids.specs.declared.calls.Reply.{Reply}
 use Rattle.k_ids.specs.declared.threads.ThreadId.{ThreadId}
-use Rattle.k_ids.specs.declared.threads.Message.{Message}
 use Rattle.k_ids.specs.declared.state_word.Result4.TheVariants as result4
 use Rattle.k_ids.specs.declared.state_word.State.{State}
 use Rattle.k_ids.specs.declared.state_word.State.TheVariants as state
 use Rattle.k_ids.specs.declared.state_word.StateWord.{StateWord}
-use Rattle.k_ids.specs.Messages.{message_bits, message_of_bits}
 use Rattle.k_ids.specs.StateWords.{IsStateSpelling, state_word_of}
 use Rattle.k_model.specs.State.{same_id}
-use Rattle.k_senders.specs.declared.entries.SenderEntry.{SenderEntry}
-use Rattle.k_locks.specs.Threads.{who_of}
+use Rattle.k_senders.specs.Queue.{Queue, stands}
+use Rattle.k_locks.specs.declared.steps.Went.{Went}
+use Rattle.k_locks.specs.declared.steps.Went.TheVariants as went
+use Rattle.k_locks.specs.Shown.{is_dead}
 
 -- a thread with another state, on where it was
 abbrev pub in_state : State → StateWord → StateWord
@@ -42,21 +43,18 @@ sends_to receiver (state.Receiving from) = false
 sends_to receiver state.Picking = false
 sends_to receiver state.Ended = false
 
--- ENTRIES
-
--- the entry of a sender
-abbrev pub entry_for : ThreadId → Message → SenderEntry
-entry_for who message = record { who = who_of who; message = message_bits message }
-
--- a version has 20 bits
-abbrev pub sender_of : SenderEntry → ThreadId
-sender_of e = record { number = e.who % 64; version = e.who / 64 % 2 ^ 20 }
-
-abbrev pub message_of : SenderEntry → Message
-message_of e = message_of_bits e.message
-
 -- the bits spell a word of the thread while it picks
 pub record IsPickingOf (who : ThreadId) (bits : ℕ) : Type 0 where
   pub spelled : IsStateSpelling bits
   pub version : (state_word_of bits).version ≡ who.version
   pub picking : (state_word_of bits).state ≡ state.Picking
+
+-- The call ends with this reply, unless the caller's word shows that it was destroyed.
+abbrev pub alive_or_dead : StateWord → Reply → Went
+alive_or_dead w r = if is_dead w then went.CallerDead else went.Ends r
+
+-- a queue to which an entry of this thread can be appended: it has room, and no entry of the thread's number
+pub record IsRoom (who : ThreadId) (queue : Queue) : Type 0 where
+  pub few : length queue.entries < queue.room
+  pub inside : who.number < queue.room
+  pub fresh : stands who.number queue.entries ≡ false

@@ -1,25 +1,13 @@
 // Whom a receive may take: the entries of its queue whose senders it admits, in their order.
 ghost use Rattle.std.specs.Prelude.{if◌then◌else◌, ◌≡◌, ◌≤◌, IfSome, Some, true};
-ghost use Rattle.k_ids.specs.declared.threads.ThreadId.{ThreadId};
 ghost use Rattle.k_model.specs.State.{admits};
-ghost use Rattle.k_senders.specs.declared.entries.SenderEntry.{SenderEntry};
-ghost use Rattle.k_senders.specs.Queue.{entry_of, number_of, stands};
+ghost use Rattle.k_senders.specs.Entries.{number_of, sender_of};
+ghost use Rattle.k_senders.specs.Queue.{entry_of, stands};
 ghost use Rattle.k_ipc.specs.Candidates.{IsLink, admitted, first_admitted, linked, onward, past};
-ghost use Rattle.k_ipc.specs.Words.{message_of, sender_of};
 
-use k_ids::{Message, ThreadId};
+use k_ids::ThreadId;
 use k_locks::admits;
 use k_senders::{SenderEntry, Senders};
-
-/// The sender of an entry.
-pub fn sender_of(entry: SenderEntry) -> ThreadId
-    ensures sender { result ≡ sender_of entry }
-{
-    ThreadId {
-        number: (entry.who % 64) as u8,
-        version: (entry.who / 64 % (1 << 20)) as u32,
-    }
-}
 
 /// The first candidate of the queue.
 pub fn first_candidate(queue: &Senders, from: Option<ThreadId>) -> Option<SenderEntry>
@@ -42,7 +30,7 @@ pub fn next_candidate(
     ensures wanted { IfSome result (λ e. admits from (sender_of e) ≡ true) }
 {
     queue.holds();
-    search(queue, from, queue.after((entry.who % 64) as u8))
+    search(queue, from, queue.after(entry.number()))
 }
 
 /// How many candidates the queue has.
@@ -59,7 +47,7 @@ pub fn count_from(queue: &Senders, from: Option<ThreadId>, entry: SenderEntry) -
     ensures count { result ≡ admitted from (onward (number_of entry) queue.now.entries) }
     ensures few { result ≤ 64 }
 {
-    count(queue, from, Some((entry.who % 64) as u8))
+    count(queue, from, Some(entry.number()))
 }
 
 // The entry of a number.
@@ -85,7 +73,7 @@ fn search(queue: &Senders, from: Option<ThreadId>, start: Option<u8>) -> Option<
     let mut at = start;
     while let Some(number) = at {
         let entry = entry_at(queue, number);
-        if admits(from, sender_of(entry)) {
+        if admits(from, entry.sender()) {
             return Some(entry);
         }
         at = queue.after(number);
@@ -103,7 +91,8 @@ fn count(queue: &Senders, from: Option<ThreadId>, start: Option<u8>) -> u32
     let mut at = start;
     let mut count = 0;
     while let Some(number) = at {
-        count += one_if(admits(from, sender_of(entry_at(queue, number))));
+        let sender = entry_at(queue, number).sender();
+        count += one_if(admits(from, sender));
         at = queue.after(number);
     }
     count

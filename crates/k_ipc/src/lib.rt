@@ -19,8 +19,8 @@ mod receive;
 mod send;
 
 pub use laws::{
-    a_receive_releases_in_time, a_receive_takes_locks_in_rising_rank, a_send_releases_in_time,
-    a_send_takes_locks_in_rising_rank,
+    a_receive_is_its_location, a_receive_releases_in_time, a_receive_takes_locks_in_rising_rank,
+    a_send_is_its_location, a_send_releases_in_time, a_send_takes_locks_in_rising_rank,
 };
 pub use receive::ReceiveSection;
 pub use send::SendSection;

@@ -1,15 +1,16 @@
 // The section of a receive, and of the pick that follows a reply.
-ghost use Rattle.std.specs.Prelude.{◌≡◌, ◌<◌, ◌≤◌, ℕ, true, false, Some, None, IfSome};
+ghost use Rattle.std.specs.Prelude.{◌≡◌, ◌≤◌, false, true, None, IfSome};
 ghost use Rattle.k_ids.specs.StateWords.{IsPartner, state_word_of};
-ghost use Rattle.k_locks.specs.declared.steps.Answer.{Answer};
-ghost use Rattle.k_locks.specs.Steps.{suits};
-ghost use Rattle.k_ipc.specs.Hands.{no_lists};
-ghost use Rattle.k_ipc.specs.Words.{IsPickingOf};
-ghost use Rattle.k_locks.specs.Threads.{IsRunOf};
 ghost use Rattle.k_model.specs.Step.{is_own};
-ghost use Rattle.k_ipc.specs.ReceiveTable.{CanPush, IsReadable, IsSound, IsSoundLocation, IsSoundLocked, Locked, asked, at_of, can_ask, hand_of, is_open, left_of, left_own, left_picking, left_thread, left_wait, locks_of, receive_of, resumed, step_of, went_of};
+ghost use Rattle.k_locks.specs.declared.steps.Answer.{Answer};
+ghost use Rattle.k_locks.specs.Hands.{nothing};
+ghost use Rattle.k_locks.specs.Steps.{goes_on, suits};
+ghost use Rattle.k_locks.specs.Threads.{IsRunOf};
+ghost use Rattle.k_ipc.specs.Words.{IsPickingOf};
+ghost use Rattle.k_ipc.specs.ReceiveTable.{CanPush, IsFit, IsSound, IsSoundLocation, IsSoundLocked, Locked, asked, at_of, can_ask, hand_of, heard, is_open, left_of, left_own, left_picking, left_thread, left_wait, locks_of, receive_of, resumed, step_of, went_of};
 
 mod moves;
+mod points;
 mod steps;
 
 use crate::candidates::{count_all, count_from};
@@ -171,7 +172,7 @@ impl ReceiveSection {
     pub fn next(&mut self) -> Step
         requires open { can_ask self.old.location ≡ true }
         requires sound { IsSound self.old }
-        requires room { CanPush (hand_of self.old.location) (at_of self.old.location) }
+        requires room { CanPush self.old.call (hand_of self.old.location) (at_of self.old.location) }
         ensures step { result ≡ step_of self.old }
         ensures section { self.new ≡ asked self.old }
         ensures sound { IsSound self.new }
@@ -190,10 +191,11 @@ impl ReceiveSection {
         requires open { is_open (at_of self.old.location) ≡ true }
         requires sound { IsSound self.old }
         requires suits { suits (step_of self.old) answer ≡ true }
-        requires readable { IsReadable answer }
+        requires fit { IsFit (at_of self.old.location) answer }
         ensures section { self.new ≡ resumed self.old answer }
-        ensures went { result ≡ went_of self.old.call (hand_of self.old.location) (at_of self.old.location) answer }
+        ensures went { result ≡ went_of self.old.call (hand_of self.old.location) (at_of self.old.location) (heard self.old answer) }
         ensures sound { IsSound self.new }
+        ensures onward { can_ask self.new.location ≡ goes_on result }
     {
         if answer.is_again() {
             return Went::Again;
@@ -300,7 +302,7 @@ fn left_thread(call: ReceiveCall, location: &ReceiveLocation) -> u32
 
 fn left_locked(call: ReceiveCall, at: ReceiveLocked, queue: &Senders) -> u32
     requires { IsSoundLocked call at queue.now }
-    ensures { result ≡ left_thread call (record { queue = queue.now; lists = no_lists }) (Locked at) }
+    ensures { result ≡ left_thread call (record nothing { queue = queue.now }) (Locked at) }
 {
     match at {
         ReceiveLocked::LoadOwn => left_own(call, count_all(queue, call.from)),

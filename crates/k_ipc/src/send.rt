@@ -1,26 +1,15 @@
 // The section of a send.
-ghost use Rattle.std.specs.Prelude.{if◌then◌else◌, ◌≡◌, ◌<◌, ◌≤◌, ◌^◌, ℕ, true, false};
-ghost use Rattle.k_ids.specs.StateWords.{IsPartner, IsStateSpelling, IsStateWord, state_bits, state_word_of};
-ghost use Rattle.k_ready.specs.Lists.{IsInNone};
-ghost use Rattle.k_senders.specs.Queue.{Queue};
-ghost use Rattle.k_locks.specs.declared.goods.Goods.TheVariants as goods;
-ghost use Rattle.k_locks.specs.declared.locks.Lock.TheVariants as lock;
-ghost use Rattle.k_locks.specs.declared.locks.WordName.TheVariants as word;
-ghost use Rattle.k_locks.specs.declared.steps.Step.TheVariants as step;
+ghost use Rattle.std.specs.Prelude.{◌≡◌, true};
+ghost use Rattle.k_ids.specs.StateWords.{IsPartner, IsStateWord, state_word_of};
 ghost use Rattle.k_locks.specs.declared.steps.Answer.{Answer};
-ghost use Rattle.k_locks.specs.Steps.{is_again, one_more, suits};
-ghost use Rattle.k_locks.specs.declared.steps.Answer.TheVariants.{Got, Loaded, Lost, Released, Stored, Won};
+ghost use Rattle.k_locks.specs.Asks.{response_of};
+ghost use Rattle.k_locks.specs.Steps.{goes_on, suits};
+ghost use Rattle.k_locks.specs.Threads.{IsRunOf};
 ghost use Rattle.k_ipc.specs.declared.send.Manner.TheVariants as manner;
-ghost use Rattle.k_ipc.specs.declared.send.SendLocked.TheVariants.{AcquireReady, Release};
-ghost use Rattle.k_ipc.specs.declared.send.SendOutside.TheVariants.{Ended};
-ghost use Rattle.k_ipc.specs.declared.send.SendRelease.TheVariants as release;
-ghost use Rattle.k_locks.specs.declared.steps.Went.TheVariants as went;
-ghost use Rattle.k_ipc.specs.declared.send.SendLocation.TheVariants as location;
-ghost use Rattle.k_ipc.specs.Hands.{Hand, no_lists};
-ghost use Rattle.k_locks.specs.Threads.{IsRunOf, IsThread};
-ghost use Rattle.k_ipc.specs.SendTable.{CanPush, IsReadable, IsSound, IsSoundAt, Locked, Outside, after_receiver, alive_or_dead, Pushing, asked, asked_location, at_of, can_ask, hand_of, manner_of, next_of, is_open, is_release, left_of, left_thread, location_with, locks_of, moved, passed_word, pushed_at, queue_back, resume_of, told, resumed, send_of, step_of, waiting_word, went_of};
+ghost use Rattle.k_ipc.specs.SendTable.{CanPush, IsFit, IsSound, Locked, asked, at_of, can_ask, hand_of, heard, is_open, left_of, left_thread, locks_of, manner_of, resumed, send_of, step_of, went_of};
 
 mod moves;
+mod points;
 mod steps;
 
 use k_ids::{Message, Reply, StateWord, ThreadId};
@@ -216,10 +205,11 @@ impl SendSection {
         requires open { is_open (at_of self.old.location) ≡ true }
         requires sound { IsSound self.old }
         requires suits { suits (step_of self.old) answer ≡ true }
-        requires readable { IsReadable (at_of self.old.location) answer }
+        requires fit { IsFit (at_of self.old.location) answer }
         ensures section { self.new ≡ resumed self.old answer }
-        ensures went { result ≡ went_of self.old.call (at_of self.old.location) answer }
+        ensures went { result ≡ went_of self.old.call (hand_of self.old.location) (at_of self.old.location) (heard self.old answer) }
         ensures sound { IsSound self.new }
+        ensures onward { can_ask self.new.location ≡ goes_on result }
     {
         if answer.is_again() {
             return Went::Again;
@@ -263,7 +253,7 @@ impl SendSection {
     /// but the one at the section's location. Where the receiver was on when it was loaded, one lost exchange is counted
     /// before. It is 0 of a lock that isn't held.
     pub fn left(&self, lock: Lock) -> u32
-        ensures { result ≡ left_of self.now.call (at_of self.now.location) lock }
+        ensures { result ≡ left_of self.now.call (hand_of self.now.location) (at_of self.now.location) lock }
     {
         match lock {
             Lock::Table => 0,

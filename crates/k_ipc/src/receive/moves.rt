@@ -1,33 +1,29 @@
 // The ways on of a receive.
-ghost use Rattle.std.specs.Prelude.{if◌then◌else◌, ◌≡◌, ◌<◌, ◌≤◌, ℕ, true, false, Some, IfSome};
-ghost use Rattle.k_ids.specs.declared.calls.Reply.TheVariants as reply;
-ghost use Rattle.k_ids.specs.StateWords.{IsPartner, IsStateSpelling, IsStateWord, state_word_of};
-ghost use Rattle.k_model.specs.State.{admits};
-ghost use Rattle.k_senders.specs.declared.entries.SenderEntry.{SenderEntry};
-ghost use Rattle.k_senders.specs.Queue.{Queue, entry_of, number_of};
-ghost use Rattle.k_locks.specs.declared.steps.Answer.TheVariants.{Got, Loaded, Lost, Released, Stored, Won};
-ghost use Rattle.k_locks.specs.declared.steps.Went.TheVariants as went;
-ghost use Rattle.k_locks.specs.Steps.{is_again, one_more, suits};
+ghost use Rattle.std.specs.Prelude.{◌≡◌, false, true};
+ghost use Rattle.k_ids.specs.StateWords.{IsStateSpelling, IsStateWord};
+ghost use Rattle.k_senders.specs.Entries.{number_of};
+ghost use Rattle.k_senders.specs.Queue.{Queue};
+ghost use Rattle.k_locks.specs.declared.steps.Answer.TheVariants as answers;
+ghost use Rattle.k_locks.specs.declared.steps.Told.TheVariants.{Loaded, Lost, Released, Won};
+ghost use Rattle.k_locks.specs.Asks as asks;
+ghost use Rattle.k_locks.specs.Hands.{nothing};
+ghost use Rattle.k_locks.specs.Steps.{is_again, is_again_told, one_more, suits};
+ghost use Rattle.k_locks.specs.Threads.{IsThread};
 ghost use Rattle.k_ipc.specs.Candidates.{first_admitted, past};
 ghost use Rattle.k_ipc.specs.declared.receive.ReceiveCall.{ReceiveCall};
 ghost use Rattle.k_ipc.specs.declared.receive.ReceiveLocation.TheVariants as location;
-ghost use Rattle.k_ipc.specs.declared.receive.ReceiveLocked.TheVariants.{Release};
 ghost use Rattle.k_ipc.specs.declared.receive.ReceiveOutside.TheVariants.{Ended};
-ghost use Rattle.k_ipc.specs.declared.receive.ReceiveRelease.TheVariants as release;
-ghost use Rattle.k_ipc.specs.Hands.{no_lists};
-ghost use Rattle.k_locks.specs.Threads.{IsThread};
-ghost use Rattle.k_ipc.specs.Words.{sender_of};
-ghost use Rattle.k_ipc.specs.ReceiveTable.{IsCandidate, IsReadable, IsSound, IsSoundLocked, Locked, Outside, Pushing, after_free, after_wait, at_of, first_locked, is_open, moved, none_left, picking_by, pushed_at, released_end, resume_of, step_of, still_waits, told, try_next, try_sender};
+ghost use Rattle.k_ipc.specs.ReceiveTable.{IsCandidate, IsFit, IsSound, IsSoundLocked, Locked, after_free, at_of, first_locked, is_open, leads, moved, none_left, picking_by, pushed_at, released_end, step_of, still_waits, try_next, try_sender, went_at};
 
-use crate::candidates::{first_candidate, next_candidate, sender_of};
+use crate::candidates::{first_candidate, next_candidate};
 use crate::receive::steps::{is_joined_to, is_pushed, own_after};
 use crate::receive::{
     ReceiveCall, ReceiveLocation, ReceiveLocked, ReceiveOutside, ReceivePushing, ReceiveRelease,
     ReceiveSection,
 };
 use crate::send::alive_or_dead;
-use k_ids::{Message, Reply, State, StateWord};
-use k_locks::{Answer, Goods, Went, is_dead, is_present_in, is_same, one_more, state_word};
+use k_ids::{Reply, State, StateWord};
+use k_locks::{Answer, Goods, Told, Went, is_dead, is_present_in, is_same, one_more, state_word};
 use k_senders::{SenderEntry, Senders};
 
 impl ReceiveSection {
@@ -36,23 +32,37 @@ impl ReceiveSection {
         requires open { is_open (at_of self.location) ≡ true }
         requires sound { IsSound self }
         requires suits { suits (step_of self) answer ≡ true }
-        requires readable { IsReadable answer }
-        requires onward { is_again answer ≡ false }
+        requires fit { IsFit (at_of self.location) answer }
+        requires made { is_again answer ≡ false }
         ensures section { result ≡ moved self answer }
         ensures sound { IsSound result }
     {
         match answer {
-            Answer::Loaded(bits) => self.loaded(bits),
-            Answer::Won => self.won(),
-            Answer::Lost { found } => self.lost(found),
             Answer::Got(goods) => self.got(goods),
-            Answer::Released => self.released(),
-            Answer::Stored
-            | Answer::Owned { owner: _ }
-            | Answer::Placed
-            | Answer::Removed
-            | Answer::Holds { context: _ }
-            | Answer::Taken {
+            Answer::Told(told) => self.told(told),
+        }
+    }
+
+    fn told(self, told: Told) -> ReceiveSection
+        requires open { is_open (at_of self.location) ≡ true }
+        requires sound { IsSound self }
+        requires suits { suits (step_of self) (answers.Told told) ≡ true }
+        requires fit { IsFit (at_of self.location) (answers.Told told) }
+        requires made { is_again_told told ≡ false }
+        ensures section { result ≡ moved self (answers.Told told) }
+        ensures sound { IsSound result }
+    {
+        match told {
+            Told::Loaded(bits) => self.loaded(bits),
+            Told::Won => self.won(),
+            Told::Lost { found } => self.lost(found),
+            Told::Released => self.released(),
+            Told::Stored
+            | Told::Owned { owner: _ }
+            | Told::Placed
+            | Told::Removed
+            | Told::Holds { context: _ }
+            | Told::Taken {
                 context: _,
                 carrier: _,
             } => unreachable!(),
@@ -62,9 +72,9 @@ impl ReceiveSection {
     fn loaded(self, bits: u64) -> ReceiveSection
         requires open { is_open (at_of self.location) ≡ true }
         requires sound { IsSound self }
-        requires suits { suits (step_of self) (Loaded bits) ≡ true }
-        requires readable { IsStateSpelling bits }
-        ensures section { result ≡ moved self (Loaded bits) }
+        requires suits { suits (step_of self) (answers.Told (Loaded bits)) ≡ true }
+        requires spelled { IsStateSpelling bits }
+        ensures section { result ≡ moved self (answers.Told (Loaded bits)) }
         ensures sound { IsSound result }
     {
         let ReceiveSection {
@@ -75,7 +85,7 @@ impl ReceiveSection {
         } = self;
         let word = state_word(bits);
         match location {
-            ReceiveLocation::Outside(_at) => section(
+            ReceiveLocation::Outside(ReceiveOutside::LoadCaller) => section(
                 call,
                 own,
                 done,
@@ -93,10 +103,11 @@ impl ReceiveSection {
         }
     }
 
+    #[tactic(auto, using(crate::proofs::ReceiveLaws::won_keeps))]
     fn won(self) -> ReceiveSection
         requires sound { IsSound self }
-        requires suits { suits (step_of self) Won ≡ true }
-        ensures section { result ≡ moved self Won }
+        requires suits { suits (step_of self) (answers.Told Won) ≡ true }
+        ensures section { result ≡ moved self (answers.Told Won) }
         ensures sound { IsSound result }
     {
         let ReceiveSection {
@@ -116,8 +127,8 @@ impl ReceiveSection {
 
     fn lost(self, found: u64) -> ReceiveSection
         requires sound { IsSound self }
-        requires suits { suits (step_of self) (Lost found) ≡ true }
-        ensures section { result ≡ moved self (Lost found) }
+        requires suits { suits (step_of self) (answers.Told (Lost found)) ≡ true }
+        ensures section { result ≡ moved self (answers.Told (Lost found)) }
         ensures sound { IsSound result }
     {
         let ReceiveSection {
@@ -146,8 +157,8 @@ impl ReceiveSection {
 
     fn got(self, goods: Goods) -> ReceiveSection
         requires sound { IsSound self }
-        requires suits { suits (step_of self) (Got goods) ≡ true }
-        ensures section { result ≡ moved self (Got goods) }
+        requires suits { suits (step_of self) (answers.Got goods) ≡ true }
+        ensures section { result ≡ moved self (answers.Got goods) }
         ensures sound { IsSound result }
     {
         let ReceiveSection {
@@ -157,7 +168,7 @@ impl ReceiveSection {
             done,
         } = self;
         match (location, goods) {
-            (ReceiveLocation::Outside(_at), Goods::Senders(queue)) => section(
+            (ReceiveLocation::Outside(ReceiveOutside::AcquireOwn), Goods::Senders(queue)) => section(
                 call,
                 own,
                 done,
@@ -176,8 +187,8 @@ impl ReceiveSection {
 
     fn released(self) -> ReceiveSection
         requires sound { IsSound self }
-        requires suits { suits (step_of self) Released ≡ true }
-        ensures section { result ≡ moved self Released }
+        requires suits { suits (step_of self) (answers.Told Released) ≡ true }
+        ensures section { result ≡ moved self (answers.Told Released) }
         ensures sound { IsSound result }
     {
         let ReceiveSection {
@@ -187,11 +198,11 @@ impl ReceiveSection {
             done,
         } = self;
         match location {
-            ReceiveLocation::Pushing(ReceivePushing::PushFreed(entry, _word), queue, _lists) => {
+            ReceiveLocation::Pushing(ReceivePushing::PushFreed(entry, _), queue, _lists) => {
                 let next = locked(ReceiveLocked::Release(ReceiveRelease::Taken(entry)), queue);
                 section(call, own, done, next)
             }
-            ReceiveLocation::ListsReturned(entry, _word, queue) => {
+            ReceiveLocation::ListsReturned(entry, _, queue) => {
                 let next = locked(ReceiveLocked::Release(ReceiveRelease::Taken(entry)), queue);
                 section(call, own, done, next)
             }
@@ -260,7 +271,7 @@ fn after_load(
 ) -> ReceiveLocked
     requires word { IsStateWord word }
     requires sound { IsSoundLocked call at queue.now }
-    ensures next { (n : ℕ) → state_word_of n ≡ word → Locked result ≡ resume_of call (record { queue = queue.now; lists = no_lists }) (Locked at) (Loaded n) }
+    ensures next { Locked result ≡ leads call (record nothing { queue = queue.now }) (Locked at) (asks.Word word) }
     ensures sound { IsSoundLocked call result queue.now }
 {
     match at {
@@ -361,8 +372,8 @@ fn pick_after(call: ReceiveCall, entry: SenderEntry, queue: &Senders) -> Receive
     }
 }
 
-// Whether the candidate's sender still waits: it sends to the caller, in the version of its entry.
-fn still_waits(call: ReceiveCall, entry: SenderEntry, word: &StateWord) -> bool
+/// Whether the candidate's sender still waits: it sends to the caller, in the version of its entry.
+pub(crate) fn still_waits(call: ReceiveCall, entry: SenderEntry, word: &StateWord) -> bool
     requires { IsStateWord word.now }
     ensures waits { result ≡ still_waits call entry word.now }
     ensures thread { result ≡ true → IsThread word.now }
@@ -375,12 +386,12 @@ fn still_waits(call: ReceiveCall, entry: SenderEntry, word: &StateWord) -> bool
         | State::Picking
         | State::Ended => false,
     };
-    word.version == sender_of(entry).version && sends
+    word.version == entry.sender().version && sends
 }
 
 // Where an exchange that is won leads.
 fn after_exchange(call: ReceiveCall, at: ReceiveLocked) -> ReceiveLocked
-    ensures next { (queue : Queue) → Locked result ≡ resume_of call (record { queue = queue; lists = no_lists }) (Locked at) Won }
+    ensures next { (queue : Queue) → Locked result ≡ leads call (record nothing { queue = queue }) (Locked at) asks.Won }
     ensures sound { (queue : Queue) → IsSoundLocked call at queue → IsSoundLocked call result queue }
 {
     match at {
@@ -421,8 +432,8 @@ fn released_end(end: ReceiveRelease) -> Went
 {
     match end {
         ReceiveRelease::Taken(entry) => Went::Ends(Reply::Got {
-            from: sender_of(entry),
-            message: Message::of(entry.message),
+            from: entry.sender(),
+            message: entry.message(),
         }),
         ReceiveRelease::Waits | ReceiveRelease::Delivered => Went::Waits,
         ReceiveRelease::Gone => Went::Ends(Reply::Gone),
@@ -449,7 +460,7 @@ impl ReceiveLocation {
 
     // How the section goes on at this location, after a step that pushed or not.
     pub(crate) fn went(&self, pushed: Option<u8>) -> Went
-        ensures { result ≡ told pushed (at_of self.now) }
+        ensures { result ≡ went_at pushed (at_of self.now) }
     {
         match (pushed, self) {
             (Some(priority), _) => Went::Pushed { priority },

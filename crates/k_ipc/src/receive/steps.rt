@@ -1,22 +1,22 @@
 // The steps of a receive.
-ghost use Rattle.std.specs.Prelude.{if◌then◌else◌, ◌≡◌, ◌<◌, ◌≤◌, ℕ, true, false, IfSome};
-ghost use Rattle.k_ids.specs.StateWords.{IsPartner, IsStateWord, state_bits};
+ghost use Rattle.std.specs.Prelude.{if◌then◌else◌, ◌≡◌, ◌<◌, false, true, IfSome};
 ghost use Rattle.k_ids.specs.declared.state_word.StateWord.{StateWord};
+ghost use Rattle.k_ids.specs.StateWords.{IsPartner, state_bits};
 ghost use Rattle.k_ready.specs.Lists.{IsInNone};
+ghost use Rattle.k_senders.specs.Entries.{number_of, sender_of};
 ghost use Rattle.k_senders.specs.Queue.{Queue};
-ghost use Rattle.k_locks.specs.declared.goods.Goods.TheVariants as goods;
-ghost use Rattle.k_locks.specs.declared.locks.Lock.TheVariants as lock;
 ghost use Rattle.k_locks.specs.declared.locks.WordName.TheVariants as word;
 ghost use Rattle.k_locks.specs.declared.steps.Step.TheVariants as step;
-ghost use Rattle.k_locks.specs.declared.steps.Answer.TheVariants.{Won};
+ghost use Rattle.k_locks.specs.Asks as asks;
+ghost use Rattle.k_locks.specs.Hands.{Hand, nothing, pushed};
+ghost use Rattle.k_locks.specs.declared.goods.Goods.TheVariants as goods;
+ghost use Rattle.k_locks.specs.declared.locks.Lock.TheVariants as lock;
+ghost use Rattle.k_locks.specs.Threads.{IsThread};
 ghost use Rattle.k_ipc.specs.declared.receive.ReceiveLocation.TheVariants as location;
 ghost use Rattle.k_ipc.specs.declared.receive.ReceiveLocked.TheVariants.{Release};
-ghost use Rattle.k_ipc.specs.Hands.{Hand, no_lists};
-ghost use Rattle.k_ipc.specs.Words.{freed, is_joined_to, sender_of};
-ghost use Rattle.k_locks.specs.Threads.{IsThread, runs};
-ghost use Rattle.k_ipc.specs.ReceiveTable.{CanPush, IsSoundLocation, IsSoundLocked, IsSoundPushing, Locked, Outside, Pushing, asked_location, at_of, can_ask, hand_of, is_pushed, is_release, lists_back, next_of, own_of, queue_back};
+ghost use Rattle.k_ipc.specs.Words.{freed, is_joined_to};
+ghost use Rattle.k_ipc.specs.ReceiveTable.{CanPush, IsSoundLocation, IsSoundLocked, IsSoundPushing, Locked, Outside, Pushing, asked_location, at_of, can_ask, hand_after, hand_of, is_pushed, is_release, next_of, own_of};
 
-use crate::candidates::sender_of;
 use crate::receive::{
     ReceiveCall, ReceiveLocation, ReceiveLocked, ReceiveOutside, ReceivePushing, ReceiveRelease,
 };
@@ -33,7 +33,7 @@ impl ReceiveLocation {
         requires from { IfSome call.from IsPartner }
         requires own { IsThread own }
         requires sound { IsSoundLocation call self }
-        requires room { CanPush (hand_of self) (at_of self) }
+        requires room { CanPush call (hand_of self) (at_of self) }
         ensures step { result.0 ≡ next_of call own (hand_of self) (at_of self) }
         ensures left { result.1 ≡ asked_location self }
     {
@@ -69,7 +69,7 @@ fn locked_step(
     requires from { IfSome call.from IsPartner }
     requires own { IsThread own }
     requires sound { IsSoundLocked call at queue }
-    ensures step { result.0 ≡ next_of call own (record { queue = queue; lists = no_lists }) (Locked at) }
+    ensures step { result.0 ≡ next_of call own (record nothing { queue = queue }) (Locked at) }
     ensures left { result.1 ≡ asked_location (location.Locked at queue) }
 {
     match at {
@@ -101,12 +101,12 @@ fn locked_step(
 #[tactic(auto, using(crate::proofs::Scanned::entry_stands))]
 fn release(call: ReceiveCall, end: ReceiveRelease, queue: Senders) -> Step
     requires { IsSoundLocked call (Release end) queue }
-    ensures { result ≡ step.Release (lock.Thread call.caller.number) (goods.Senders (queue_back (record { queue = queue; lists = no_lists }) end)) }
+    ensures { result ≡ step.Release (lock.Thread call.caller.number) (goods.Senders (hand_after call (record nothing { queue = queue }) (Locked (Release end)) asks.Released).queue) }
 {
     let mut queue = queue;
     match end {
         ReceiveRelease::Taken(entry) => {
-            queue.take_number((entry.who % 64) as u8);
+            queue.take_number(entry.number());
         }
         ReceiveRelease::Waits
         | ReceiveRelease::Delivered
@@ -127,17 +127,17 @@ fn word_step(call: ReceiveCall, own: StateWord, at: ReceiveLocked, queue: &Sende
     requires own { IsThread own }
     requires sound { IsSoundLocked call at queue.now }
     requires plain { is_release at ≡ false }
-    ensures { result ≡ next_of call own (record { queue = queue.now; lists = no_lists }) (Locked at) }
+    ensures { result ≡ next_of call own (record nothing { queue = queue.now }) (Locked at) }
 {
     match at {
         ReceiveLocked::LoadOwn | ReceiveLocked::LoadPicking => Step::Load(WordName::State(
             call.caller.number,
         )),
         ReceiveLocked::LoadSender(entry) | ReceiveLocked::LoadNext(entry) => Step::Load(
-            WordName::State(sender_of(entry).number),
+            WordName::State(entry.number()),
         ),
         ReceiveLocked::FreeSender(entry, word) | ReceiveLocked::FreeNext(entry, word) => exchange(
-            sender_of(entry),
+            entry.sender(),
             word,
             freed(call.caller, word),
         ),
@@ -197,7 +197,7 @@ pub(crate) fn is_joined_to(state: State) -> bool
 pub(crate) fn own_after(call: ReceiveCall, own: StateWord, at: ReceiveLocked) -> StateWord
     requires from { IfSome call.from IsPartner }
     requires own { IsThread own }
-    ensures word { result ≡ own_of call own (Locked at) Won }
+    ensures word { result ≡ own_of call own (Locked at) asks.Won }
     ensures sound { IsThread result }
 {
     match at {
@@ -234,7 +234,7 @@ pub(crate) fn is_pushed(entry: SenderEntry, word: StateWord) -> bool
         | State::Picking
         | State::Ended => false,
     };
-    runs && word.version == sender_of(entry).version
+    runs && word.version == entry.sender().version
 }
 
 // The steps under the ready lock. Its release takes the lists along.
@@ -245,13 +245,13 @@ fn pushing_step(
     lists: ReadyLists,
 ) -> (Step, ReceiveLocation)
     requires sound { IsSoundPushing call at queue }
-    requires room { CanPush (record { queue = queue; lists = lists }) (Pushing at) }
-    ensures step { (own : StateWord) → result.0 ≡ next_of call own (record { queue = queue; lists = lists }) (Pushing at) }
+    requires room { CanPush call (record nothing { queue = queue; lists = lists }) (Pushing at) }
+    ensures step { (own : StateWord) → result.0 ≡ next_of call own (record nothing { queue = queue; lists = lists }) (Pushing at) }
     ensures left { result.1 ≡ asked_location (location.Pushing at queue lists) }
 {
     match at {
         ReceivePushing::LoadFreed(entry) => (
-            Step::Load(WordName::State(sender_of(entry).number)),
+            Step::Load(WordName::State(entry.number())),
             ReceiveLocation::Pushing(at, queue, lists),
         ),
         ReceivePushing::PushFreed(entry, word) => (
@@ -264,12 +264,12 @@ fn pushing_step(
 // The release of the ready lists, with the sender at the end of the list of its priority.
 fn release_lists(entry: SenderEntry, word: StateWord, lists: ReadyLists) -> Step
     requires priority { word.priority < 64 }
-    requires room { is_pushed entry word ≡ true → IsInNone (sender_of entry).number lists.lists }
-    ensures { (queue : Queue) → result ≡ step.Release lock.Ready (goods.Ready (lists_back (record { queue = queue; lists = lists }) entry word)) }
+    requires room { is_pushed entry word ≡ true → IsInNone (number_of entry) lists.lists }
+    ensures { result ≡ step.Release lock.Ready (goods.Ready (if is_pushed entry word then pushed (sender_of entry) word.priority lists else lists)) }
 {
     let mut lists = lists;
     if is_pushed(entry, word) {
-        let sender = sender_of(entry);
+        let sender = entry.sender();
         lists.push(sender.number, sender.version, word.priority);
     }
     Step::Release {

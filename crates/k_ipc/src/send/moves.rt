@@ -1,24 +1,18 @@
 // The ways on of a send.
-ghost use Rattle.std.specs.Prelude.{if◌then◌else◌, ◌≡◌, ◌<◌, ◌≤◌, ◌^◌, ℕ, true, false};
-ghost use Rattle.k_ids.specs.StateWords.{IsPartner, IsStateSpelling, IsStateWord, state_bits, state_word_of};
-ghost use Rattle.k_ready.specs.Lists.{IsInNone};
-ghost use Rattle.k_senders.specs.Queue.{Queue};
-ghost use Rattle.k_locks.specs.declared.goods.Goods.TheVariants as goods;
-ghost use Rattle.k_locks.specs.declared.locks.Lock.TheVariants as lock;
-ghost use Rattle.k_locks.specs.declared.locks.WordName.TheVariants as word;
-ghost use Rattle.k_locks.specs.declared.steps.Step.TheVariants as step;
-ghost use Rattle.k_locks.specs.declared.steps.Answer.{Answer};
-ghost use Rattle.k_locks.specs.Steps.{is_again, one_more, suits};
-ghost use Rattle.k_locks.specs.declared.steps.Answer.TheVariants.{Got, Loaded, Lost, Released, Stored, Won};
-ghost use Rattle.k_ipc.specs.declared.send.Manner.TheVariants as manner;
+ghost use Rattle.std.specs.Prelude.{if◌then◌else◌, ◌≡◌, false, true};
+ghost use Rattle.k_ids.specs.StateWords.{IsStateWord};
+ghost use Rattle.k_locks.specs.declared.steps.Answer.TheVariants as answers;
+ghost use Rattle.k_locks.specs.declared.steps.Told.TheVariants.{Loaded, Lost, Released, Stored, Won};
+ghost use Rattle.k_locks.specs.Asks as asks;
+ghost use Rattle.k_locks.specs.Hands.{Hand};
+ghost use Rattle.k_locks.specs.Steps.{is_again, is_again_told, one_more, suits};
+ghost use Rattle.k_locks.specs.Threads.{IsThread};
+ghost use Rattle.k_ipc.specs.declared.send.SendLocation.TheVariants as location;
 ghost use Rattle.k_ipc.specs.declared.send.SendLocked.TheVariants.{AcquireReady, Release};
 ghost use Rattle.k_ipc.specs.declared.send.SendOutside.TheVariants.{Ended};
 ghost use Rattle.k_ipc.specs.declared.send.SendRelease.TheVariants as release;
-ghost use Rattle.k_locks.specs.declared.steps.Went.TheVariants as went;
-ghost use Rattle.k_ipc.specs.declared.send.SendLocation.TheVariants as location;
-ghost use Rattle.k_ipc.specs.Hands.{Hand, no_lists};
-ghost use Rattle.k_locks.specs.Threads.{IsRunOf, IsThread};
-ghost use Rattle.k_ipc.specs.SendTable.{CanPush, IsReadable, IsSound, IsSoundAt, Locked, Outside, after_receiver, alive_or_dead, Pushing, asked, asked_location, at_of, can_ask, hand_of, manner_of, next_of, is_open, is_release, left_of, left_thread, location_with, locks_of, moved, passed_word, pushed_at, queue_back, resume_of, told, resumed, send_of, step_of, waiting_word, went_of};
+ghost use Rattle.k_ipc.specs.Words.{alive_or_dead};
+ghost use Rattle.k_ipc.specs.SendTable.{IsFit, IsSound, IsSoundAt, Locked, after_receiver, at_of, is_open, leads, location_with, moved, pushed_at, step_of, went_at};
 
 use crate::send::steps::{passed_word, waiting_word};
 use crate::send::{
@@ -26,7 +20,7 @@ use crate::send::{
 };
 use k_ids::{Reply, StateWord};
 use k_locks::{
-    Answer, Goods, Went, found_in, is_dead, is_present_in, one_more, state_word, takes_from,
+    Answer, Goods, Told, Went, found_in, is_dead, is_present_in, one_more, state_word, takes_from,
 };
 use k_senders::Senders;
 
@@ -36,23 +30,37 @@ impl SendSection {
         requires open { is_open (at_of self.location) ≡ true }
         requires sound { IsSound self }
         requires suits { suits (step_of self) answer ≡ true }
-        requires readable { IsReadable (at_of self.location) answer }
-        requires onward { is_again answer ≡ false }
+        requires fit { IsFit (at_of self.location) answer }
+        requires made { is_again answer ≡ false }
         ensures section { result ≡ moved self answer }
         ensures sound { IsSound result }
     {
         match answer {
-            Answer::Loaded(bits) => self.loaded(bits),
-            Answer::Stored => self.stored(),
-            Answer::Won => self.won(),
-            Answer::Lost { found } => self.lost(found),
             Answer::Got(goods) => self.got(goods),
-            Answer::Released => self.released(),
-            Answer::Owned { owner: _ }
-            | Answer::Placed
-            | Answer::Removed
-            | Answer::Holds { context: _ }
-            | Answer::Taken {
+            Answer::Told(told) => self.told(told),
+        }
+    }
+
+    fn told(self, told: Told) -> SendSection
+        requires open { is_open (at_of self.location) ≡ true }
+        requires sound { IsSound self }
+        requires suits { suits (step_of self) (answers.Told told) ≡ true }
+        requires fit { IsFit (at_of self.location) (answers.Told told) }
+        requires made { is_again_told told ≡ false }
+        ensures section { result ≡ moved self (answers.Told told) }
+        ensures sound { IsSound result }
+    {
+        match told {
+            Told::Loaded(bits) => self.loaded(bits),
+            Told::Stored => self.stored(),
+            Told::Won => self.won(),
+            Told::Lost { found } => self.lost(found),
+            Told::Released => self.released(),
+            Told::Owned { owner: _ }
+            | Told::Placed
+            | Told::Removed
+            | Told::Holds { context: _ }
+            | Told::Taken {
                 context: _,
                 carrier: _,
             } => unreachable!(),
@@ -62,9 +70,9 @@ impl SendSection {
     fn loaded(self, bits: u64) -> SendSection
         requires open { is_open (at_of self.location) ≡ true }
         requires sound { IsSound self }
-        requires suits { suits (step_of self) (Loaded bits) ≡ true }
-        requires readable { IsReadable (at_of self.location) (Loaded bits) }
-        ensures section { result ≡ moved self (Loaded bits) }
+        requires suits { suits (step_of self) (answers.Told (Loaded bits)) ≡ true }
+        requires fit { IsFit (at_of self.location) (answers.Told (Loaded bits)) }
+        ensures section { result ≡ moved self (answers.Told (Loaded bits)) }
         ensures sound { IsSound result }
     {
         let SendSection {
@@ -81,7 +89,7 @@ impl SendSection {
                 done,
                 ended(alive_or_dead(word, reply)),
             ),
-            SendLocation::Outside(_at) => section(
+            SendLocation::Outside(SendOutside::LoadCaller) => section(
                 call,
                 own,
                 done,
@@ -93,7 +101,7 @@ impl SendSection {
                 done,
                 locked(after_receiver(call, word), queue),
             ),
-            SendLocation::Locked(_at, queue) => section(
+            SendLocation::Locked(SendLocked::ReloadReceiver, queue) => section(
                 call,
                 own,
                 done,
@@ -105,8 +113,8 @@ impl SendSection {
 
     fn stored(self) -> SendSection
         requires sound { IsSound self }
-        requires suits { suits (step_of self) Stored ≡ true }
-        ensures section { result ≡ moved self Stored }
+        requires suits { suits (step_of self) (answers.Told Stored) ≡ true }
+        ensures section { result ≡ moved self (answers.Told Stored) }
         ensures sound { IsSound result }
     {
         let SendSection {
@@ -128,8 +136,8 @@ impl SendSection {
 
     fn won(self) -> SendSection
         requires sound { IsSound self }
-        requires suits { suits (step_of self) Won ≡ true }
-        ensures section { result ≡ moved self Won }
+        requires suits { suits (step_of self) (answers.Told Won) ≡ true }
+        ensures section { result ≡ moved self (answers.Told Won) }
         ensures sound { IsSound result }
     {
         let SendSection {
@@ -159,8 +167,8 @@ impl SendSection {
 
     fn lost(self, found: u64) -> SendSection
         requires sound { IsSound self }
-        requires suits { suits (step_of self) (Lost found) ≡ true }
-        ensures section { result ≡ moved self (Lost found) }
+        requires suits { suits (step_of self) (answers.Told (Lost found)) ≡ true }
+        ensures section { result ≡ moved self (answers.Told (Lost found)) }
         ensures sound { IsSound result }
     {
         let SendSection {
@@ -176,7 +184,7 @@ impl SendSection {
                 done,
                 locked(SendLocked::ReloadReceiver, queue),
             ),
-            SendLocation::Locked(_at, queue) => {
+            SendLocation::Locked(SendLocked::CommitPass(_) | SendLocked::CommitWait, queue) => {
                 let next = locked(SendLocked::Release(SendRelease::Dead), queue);
                 section(call, own, done, next)
             }
@@ -186,8 +194,8 @@ impl SendSection {
 
     fn got(self, goods: Goods) -> SendSection
         requires sound { IsSound self }
-        requires suits { suits (step_of self) (Got goods) ≡ true }
-        ensures section { result ≡ moved self (Got goods) }
+        requires suits { suits (step_of self) (answers.Got goods) ≡ true }
+        ensures section { result ≡ moved self (answers.Got goods) }
         ensures sound { IsSound result }
     {
         let SendSection {
@@ -197,7 +205,7 @@ impl SendSection {
             done,
         } = self;
         match (location, goods) {
-            (SendLocation::Outside(_at), Goods::Senders(queue)) => section(
+            (SendLocation::Outside(SendOutside::AcquireReceiver), Goods::Senders(queue)) => section(
                 call,
                 own,
                 done,
@@ -216,8 +224,8 @@ impl SendSection {
 
     fn released(self) -> SendSection
         requires sound { IsSound self }
-        requires suits { suits (step_of self) Released ≡ true }
-        ensures section { result ≡ moved self Released }
+        requires suits { suits (step_of self) (answers.Told Released) ≡ true }
+        ensures section { result ≡ moved self (answers.Told Released) }
         ensures sound { IsSound result }
     {
         let SendSection {
@@ -227,11 +235,11 @@ impl SendSection {
             done,
         } = self;
         match location {
-            SendLocation::Pushing(_at, queue, _lists) => {
+            SendLocation::Pushing(SendPushing::PushReceiver(_), queue, _lists) => {
                 let next = locked(SendLocked::Release(SendRelease::Passed), queue);
                 section(call, own, done, next)
             }
-            SendLocation::ListsReturned(_at, queue) => {
+            SendLocation::ListsReturned(SendPushing::PushReceiver(_), queue) => {
                 let next = locked(SendLocked::Release(SendRelease::Passed), queue);
                 section(call, own, done, next)
             }
@@ -273,7 +281,7 @@ fn ended(went: Went) -> SendLocation
 
 /// The call ends with this reply, unless the caller's word shows that it was destroyed.
 pub(crate) fn alive_or_dead(word: StateWord, reply: Reply) -> Went
-    ensures { result ≡ alive_or_dead word (went.Ends reply) }
+    ensures { result ≡ alive_or_dead word reply }
 {
     if is_dead(&word) {
         Went::CallerDead
@@ -316,7 +324,7 @@ fn after_wake(word: StateWord) -> SendLocked
 }
 
 fn after_release(call: SendCall, end: SendRelease) -> SendLocation
-    ensures next { (h : Hand) → result ≡ location_with h (resume_of call (Locked (Release end)) Released) }
+    ensures next { (h : Hand) → result ≡ location_with h (leads call h (Locked (Release end)) asks.Released) }
     ensures sound { IsSoundAt (at_of result) }
 {
     match end {
@@ -347,7 +355,7 @@ impl SendLocation {
 
     // How the section goes on at this location, after a step that pushed or not.
     pub(crate) fn went(&self, pushed: Option<u8>) -> Went
-        ensures { result ≡ told pushed (at_of self.now) }
+        ensures { result ≡ went_at pushed (at_of self.now) }
     {
         match (pushed, self) {
             (Some(priority), _) => Went::Pushed { priority },

@@ -1,31 +1,25 @@
 // The steps of a send.
-ghost use Rattle.std.specs.Prelude.{if◌then◌else◌, ◌≡◌, ◌<◌, ◌≤◌, ◌^◌, ℕ, true, false};
-ghost use Rattle.k_ids.specs.StateWords.{IsPartner, IsStateSpelling, IsStateWord, state_bits, state_word_of};
+ghost use Rattle.std.specs.Prelude.{◌≡◌, false, true};
+ghost use Rattle.k_ids.specs.StateWords.{IsPartner, state_bits};
+ghost use Rattle.k_ids.specs.declared.state_word.StateWord.{StateWord};
 ghost use Rattle.k_ready.specs.Lists.{IsInNone};
-ghost use Rattle.k_senders.specs.Queue.{Queue, number_of};
-ghost use Rattle.k_ipc.specs.Words.{entry_for};
-ghost use Rattle.k_locks.specs.declared.goods.Goods.TheVariants as goods;
-ghost use Rattle.k_locks.specs.declared.locks.Lock.TheVariants as lock;
+ghost use Rattle.k_senders.specs.Queue.{Queue};
 ghost use Rattle.k_locks.specs.declared.locks.WordName.TheVariants as word;
 ghost use Rattle.k_locks.specs.declared.steps.Step.TheVariants as step;
-ghost use Rattle.k_locks.specs.declared.steps.Answer.{Answer};
-ghost use Rattle.k_locks.specs.Steps.{is_again, one_more, suits};
-ghost use Rattle.k_locks.specs.declared.steps.Answer.TheVariants.{Got, Loaded, Lost, Released, Stored, Won};
-ghost use Rattle.k_ipc.specs.declared.send.Manner.TheVariants as manner;
-ghost use Rattle.k_ipc.specs.declared.send.SendLocked.TheVariants.{AcquireReady, Release};
-ghost use Rattle.k_ipc.specs.declared.send.SendOutside.TheVariants.{Ended};
-ghost use Rattle.k_ipc.specs.declared.send.SendRelease.TheVariants as release;
-ghost use Rattle.k_locks.specs.declared.steps.Went.TheVariants as went;
+ghost use Rattle.k_locks.specs.declared.goods.Goods.TheVariants as goods;
+ghost use Rattle.k_locks.specs.declared.locks.Lock.TheVariants as lock;
+ghost use Rattle.k_locks.specs.Asks as asks;
+ghost use Rattle.k_locks.specs.Hands.{Hand, nothing};
+ghost use Rattle.k_locks.specs.Threads.{IsThread};
 ghost use Rattle.k_ipc.specs.declared.send.SendLocation.TheVariants as location;
-ghost use Rattle.k_ipc.specs.Hands.{Hand, no_lists};
-ghost use Rattle.k_locks.specs.Threads.{IsRunOf, IsThread};
-ghost use Rattle.k_ipc.specs.SendTable.{CanPush, IsReadable, IsSound, IsSoundAt, Locked, Outside, after_receiver, alive_or_dead, Pushing, asked, asked_location, at_of, can_ask, hand_of, manner_of, next_of, is_open, is_release, left_of, left_thread, location_with, locks_of, moved, passed_word, pushed_at, queue_back, resume_of, told, resumed, send_of, step_of, waiting_word, went_of};
+ghost use Rattle.k_ipc.specs.declared.send.SendLocked.TheVariants.{Release};
+ghost use Rattle.k_ipc.specs.SendTable.{CanPush, IsSoundAt, Locked, Outside, Pushing, asked_location, at_of, can_ask, hand_after, hand_of, is_release, next_of, passed_word, waiting_word};
 
 use crate::send::{
     Manner, SendCall, SendLocation, SendLocked, SendOutside, SendPushing, SendRelease,
 };
-use k_ids::{Message, Result4, State, StateWord, ThreadId};
-use k_locks::{Goods, Lock, Step, WordName, who_of};
+use k_ids::{Result4, State, StateWord};
+use k_locks::{Goods, Lock, Step, WordName};
 use k_ready::ReadyLists;
 use k_senders::{SenderEntry, Senders};
 
@@ -77,8 +71,8 @@ fn locked_step(
     requires to { IsPartner call.to }
     requires own { IsThread own }
     requires sound { IsSoundAt (Locked at) }
-    requires room { CanPush call (record { queue = queue; lists = no_lists }) (Locked at) }
-    ensures step { result.0 ≡ next_of call own (record { queue = queue; lists = no_lists }) (Locked at) }
+    requires room { CanPush call (record nothing { queue = queue }) (Locked at) }
+    ensures step { result.0 ≡ next_of call own (record nothing { queue = queue }) (Locked at) }
     ensures left { result.1 ≡ asked_location (location.Locked at queue) }
 {
     match at {
@@ -96,29 +90,17 @@ fn locked_step(
 // The release of the queue, with the caller at its end where it waits.
 fn release(call: SendCall, end: SendRelease, queue: Senders) -> Step
     requires caller { IsPartner call.caller }
-    requires room { CanPush call (record { queue = queue; lists = no_lists }) (Locked (Release end)) }
-    ensures { result ≡ step.Release (lock.Thread call.to.number) (goods.Senders (queue_back call (record { queue = queue; lists = no_lists }) end)) }
+    requires room { CanPush call (record nothing { queue = queue }) (Locked (Release end)) }
+    ensures { result ≡ step.Release (lock.Thread call.to.number) (goods.Senders (hand_after call (record nothing { queue = queue }) (Locked (Release end)) asks.Released).queue) }
 {
     let mut queue = queue;
     match end {
-        SendRelease::Queued => queue.push(entry_for(call.caller, call.message)),
+        SendRelease::Queued => queue.push(SenderEntry::of(call.caller, call.message)),
         SendRelease::Passed | SendRelease::Dead | SendRelease::Refused(_) => {}
     }
     Step::Release {
         lock: Lock::Thread(call.to.number),
         goods: Goods::Senders(queue),
-    }
-}
-
-// The entry of a sender in a queue.
-fn entry_for(who: ThreadId, message: Message) -> SenderEntry
-    requires { IsPartner who }
-    ensures entry { result ≡ entry_for who message }
-    ensures number { number_of result ≡ who.number }
-{
-    SenderEntry {
-        who: who_of(who),
-        message: message.packed(),
     }
 }
 
@@ -205,7 +187,7 @@ fn pushing_step(call: SendCall, at: SendPushing, lists: ReadyLists) -> Step
     requires to { IsPartner call.to }
     requires sound { IsSoundAt (Pushing at) }
     requires room { IsInNone call.to.number lists.lists }
-    ensures { (own : StateWord) (queue : Queue) → result ≡ next_of call own (record { queue = queue; lists = lists }) (Pushing at) }
+    ensures { (own : StateWord) (queue : Queue) → result ≡ next_of call own (record nothing { queue = queue; lists = lists }) (Pushing at) }
 {
     let SendPushing::PushReceiver(priority) = at;
     let mut lists = lists;

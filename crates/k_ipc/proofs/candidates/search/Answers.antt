@@ -2,12 +2,12 @@ use Rattle.std.proofs.Common.{◌≡◌, ℕ, Some, true, false, ap, sym, subst,
 use Rattle.k_model.specs.State.{admits}
 use Rattle.k_senders.specs.Queue.{entry_of}
 use Rattle.k_ipc.proofs.Scanned.{after_links, entry_number, scan_shortens, search_found, search_passed}
-use Rattle.k_ipc.specs.Words.{sender_of}
+use Rattle.k_senders.specs.Entries.{sender_of}
 use Rattle.k_ipc.proofs.candidates.search.Goals as goal
 
 pub returns-then-admits-clause-candidate : goal.returns-then-admits-clause-candidate
 returns-then-admits-clause-candidate c =
-    let t : admits c.args.from (sender_of c.entry_at-entry.result) ≡ true = ap (admits c.args.from) (sym c.sender_of.ensures.sender) ∙ sym c.admits.ensures ∙ c.if-admits.true in
+    let t : admits c.args.from (sender_of c.entry_at-entry.result) ≡ true = ap (admits c.args.from) (sym c.sender.ensures.sender) ∙ sym c.admits.ensures ∙ c.if-admits.true in
     search_found c.args.from c.loop-at.at c.in-Some.number c.args.queue.now.entries c.entry_at-entry.result c.in-Some.is c.entry_at-entry.ensures t ∙ c.loop-at.invariant.1
 
 pub returns-then-admits-clause-standing : goal.returns-then-admits-clause-standing
@@ -26,6 +26,6 @@ pub loop-at-preserved : goal.loop-at-preserved
 loop-at-preserved c =
     let es = c.args.queue.now.entries in
     let n = c.in-Some.number in
-    let f : admits c.args.from (sender_of c.entry_at-entry.result) ≡ false = ap (admits c.args.from) (sym c.sender_of.ensures.sender) ∙ sym c.admits.ensures ∙ c.if-admits.false in
+    let f : admits c.args.from (sender_of c.entry_at-entry.result) ≡ false = ap (admits c.args.from) (sym c.sender.ensures.sender) ∙ sym c.admits.ensures ∙ c.if-admits.false in
     let passed = search_passed c.args.from c.loop-at.at n es c.entry_at-entry.result c.holds.ensures.once c.in-Some.is c.entry_at-entry.ensures f in
     (rw c.after-at.ensures (after_links n es), rw c.after-at.ensures (passed ∙ c.loop-at.invariant.1))

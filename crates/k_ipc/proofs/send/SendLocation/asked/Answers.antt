@@ -1,4 +1,4 @@
-use Rattle.k_ipc.specs.Hands.{nothing}
+use Rattle.k_locks.specs.Hands.{nothing}
 use Rattle.k_ipc.proofs.send.SendLocation.asked.Goals as goal
 
 pub returns-in-Outside-clause-step : goal.returns-in-Outside-clause-step

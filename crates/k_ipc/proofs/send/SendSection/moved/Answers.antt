@@ -1,4 +1,4 @@
 use Rattle.k_ipc.proofs.send.SendSection.moved.Goals as goal
 
-pub returns-in-Released-clause-section : goal.returns-in-Released-clause-section
-returns-in-Released-clause-section c = rw c.in-Released.is c.released.ensures.section
+pub returns-in-Told-clause-section : goal.returns-in-Told-clause-section
+returns-in-Told-clause-section c = rw c.in-Told.is c.told.ensures.section

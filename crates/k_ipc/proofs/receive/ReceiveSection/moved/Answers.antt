@@ -1,0 +1,4 @@
+use Rattle.k_ipc.proofs.receive.ReceiveSection.moved.Goals as goal
+
+pub returns-in-Told-clause-section : goal.returns-in-Told-clause-section
+returns-in-Told-clause-section c = rw c.in-Told.is c.told.ensures.section

@@ -283,10 +283,10 @@ resumed_onward s a up fits =
     let q = leads s.call (hand_of s.location) (at_of s.location) (heard s a) in
     let told = again_heard ask a in
     go (is_again a) refl told (λ e. again_by ask (heard s a) (λ r. can_ask s.location ≡ true) suiting e (asks_again s.call s.own s.location))
-      (λ e. open_asks h q ∙ made_by ask (heard s a) (GoesOn s.call (hand_of s.location) (at_of s.location)) suiting e (onward s.call s.own (hand_of s.location) (at_of s.location) up))
+    (λ e. open_asks h q ∙ made_by ask (heard s a) (GoesOn s.call (hand_of s.location) (at_of s.location)) suiting e (onward s.call s.own (hand_of s.location) (at_of s.location) up))
   where
     go : (b : Bool) → is_again a ≡ b → is_again a ≡ asks.is_again (heard s a) → (asks.is_again (heard s a) ≡ true → can_ask s.location ≡ true)
-      → (asks.is_again (heard s a) ≡ false → can_ask (moved s a).location ≡ goes_on (went_at (pushed_at (at_of s.location)) (leads s.call (hand_of s.location) (at_of s.location) (heard s a))))
-      → can_ask (if b then s else moved s a).location ≡ goes_on (if asks.is_again (heard s a) then went.Again else went_at (pushed_at (at_of s.location)) (leads s.call (hand_of s.location) (at_of s.location) (heard s a)))
+        → (asks.is_again (heard s a) ≡ false → can_ask (moved s a).location ≡ goes_on (went_at (pushed_at (at_of s.location)) (leads s.call (hand_of s.location) (at_of s.location) (heard s a))))
+        → can_ask (if b then s else moved s a).location ≡ goes_on (if asks.is_again (heard s a) then went.Again else went_at (pushed_at (at_of s.location)) (leads s.call (hand_of s.location) (at_of s.location) (heard s a)))
     go true e told again other = let r = sym told ∙ e in rw r (again r)
     go false e told again other = let r = sym told ∙ e in rw r (other r)

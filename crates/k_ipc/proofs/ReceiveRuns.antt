@@ -311,8 +311,10 @@ falls c own h (Locked LoadOwn) i held = λ w g a there m.
 falls c own h (Locked (LoadSender d)) i held = λ w g a there m.
     let s = one_left c h d i.1 in
     cond_both (still_waits c d w) _ _ (λ (q : ReceiveLocked). 1 + rest_thread c h true (Locked q) ≤ candidates_from c h d + 5) (λ _. omega (arith, s)) (λ _. let t = try_later c h d true (candidates_after c h d) i.0 i.1 refl in omega (arith, t))
-falls c own h (Locked (FreeSender d w)) i held = (λ g a there m. let f = freed_all c h there d w in free_won (rest_thread c h there (Locked (after_free d w))) (candidates_from c h d + 6) there f (omega arith),
-  λ v g a there m. free_lost (candidates_from c h d + 5) (candidates_from c h d + 6) 5 there (m (eq-eqb (number_of d) (number_of d) refl)) (omega arith))
+falls c own h (Locked (FreeSender d w)) i held = (
+  λ g a there m. let f = freed_all c h there d w in free_won (rest_thread c h there (Locked (after_free d w))) (candidates_from c h d + 6) there f (omega arith),
+  λ v g a there m. free_lost (candidates_from c h d + 5) (candidates_from c h d + 6) 5 there (m (eq-eqb (number_of d) (number_of d) refl)) (omega arith),
+)
 falls c own h (Locked (AcquireReady d)) i held = λ g a there m. omega arith
 falls c own h (Locked CommitWait) i held = (λ g a there m. waits_fall c h there c.from, λ v g a there m. absurd (false≢true (sym a)))
 falls c own h (Locked (LoadPartner from)) i held = λ w g a there m. cond_both (is_present_in w from) _ _ (λ (q : ReceiveLocked). 1 + rest_thread c h true (Locked q) ≤ 3) (λ _. omega arith) (λ _. omega arith)
@@ -321,8 +323,10 @@ falls c own h (Locked LoadPicking) i held = λ w g a there m. let t = pick_by c 
 falls c own h (Locked (LoadNext d)) i held = λ w g a there m.
     let s = one_left c h d i.1 in
     cond_both (still_waits c d w) _ _ (λ (q : ReceiveLocked). 1 + rest_thread c h true (Locked q) ≤ candidates_from c h d + 6) (λ _. omega (arith, s)) (λ _. let t = pick_later c h d true (candidates_after c h d) i.0 i.1 refl in omega (arith, t))
-falls c own h (Locked (FreeNext d w)) i held = (λ g a there m. next_won (candidates_from c h d + 7) there (omega arith),
-  λ v g a there m. free_lost (candidates_from c h d + 6) (candidates_from c h d + 7) 6 there (m (eq-eqb (number_of d) (number_of d) refl)) (omega arith))
+falls c own h (Locked (FreeNext d w)) i held = (
+  λ g a there m. next_won (candidates_from c h d + 7) there (omega arith),
+  λ v g a there m. free_lost (candidates_from c h d + 6) (candidates_from c h d + 7) 6 there (m (eq-eqb (number_of d) (number_of d) refl)) (omega arith),
+)
 falls c own h (Locked (EndPick d w)) i held = (λ g a there m. let f = freed_all c h there d w in omega (arith, f), λ v g a there m. absurd (false≢true (sym a)))
 falls c own h (Locked SettlePick) i held = (λ g a there m. omega arith, λ v g a there m. absurd (false≢true (sym a)))
 falls c own h (Locked (Release r)) i held = λ g a there m. omega arith
@@ -456,23 +460,23 @@ table_falls : (c : ReceiveCall) (k : Lock) (own : StateWord) (h : Hand) (p : Rec
 table_falls c k own h p r g there i holds made m =
     let h' = hand_came r g (hand_after c h p r) in
     by_lock c h k p (λ (l : Lock). 1 + rest_of c h' (there_after there r) (leads c h p r) l ≤ rest_of c h there p l) holds
-      (λ held.
-        let f = made_by (ask_of c own p) r (Falls c own h p) made.suiting made.made (falls c own h p i (λ e. absurd (omega (arith, held, e)))) g made.allowed there m in
-        let after = own_number c.caller.number (rest_thread c h' (there_after there r) (leads c h p r)) in
-        let before = own_number c.caller.number (rest_thread c h there p) in
-        omega (arith, f, after, before))
-      (λ lists. made_by (ask_of c own p) r (λ x. 1 + left_ready (leads c h p x) ≤ left_ready p) made.suiting made.made (ready_falls c own h p lists))
+    (λ held.
+    let f = made_by (ask_of c own p) r (Falls c own h p) made.suiting made.made (falls c own h p i (λ e. absurd (omega (arith, held, e)))) g made.allowed there m in
+    let after = own_number c.caller.number (rest_thread c h' (there_after there r) (leads c h p r)) in
+    let before = own_number c.caller.number (rest_thread c h there p) in
+    omega (arith, f, after, before))
+    (λ lists. made_by (ask_of c own p) r (λ x. 1 + left_ready (leads c h p x) ≤ left_ready p) made.suiting made.made (ready_falls c own h p lists))
 
 table_missed : (c : ReceiveCall) (k : Lock) (own : StateWord) (h : Hand) (p : ReceiveAt) (r : Response) (g : Goods) → IsCounted c h p → Holds k (locks_of c p) → IsMade (receive_table c) own h p r g → 1 + rest_of c (hand_came r g (hand_after c h p r)) false (leads c h p r) k ≤ rest_of c h (not (is_lost r)) p k + 2
 table_missed c k own h p r g i holds made =
     let h' = hand_came r g (hand_after c h p r) in
     by_lock c h k p (λ (l : Lock). 1 + rest_of c h' false (leads c h p r) l ≤ rest_of c h (not (is_lost r)) p l + 2) holds
-      (λ held.
-        let f = made_by (ask_of c own p) r (Misses c own h p) made.suiting made.made (missed c own h p i (λ e. absurd (omega (arith, held, e)))) g made.allowed in
-        let after = own_number c.caller.number (rest_thread c h' false (leads c h p r)) in
-        let before = own_number c.caller.number (rest_thread c h (not (is_lost r)) p) in
-        omega (arith, f, after, before))
-      (λ lists. let f = made_by (ask_of c own p) r (λ x. 1 + left_ready (leads c h p x) ≤ left_ready p) made.suiting made.made (ready_falls c own h p lists) in omega (arith, f))
+    (λ held.
+    let f = made_by (ask_of c own p) r (Misses c own h p) made.suiting made.made (missed c own h p i (λ e. absurd (omega (arith, held, e)))) g made.allowed in
+    let after = own_number c.caller.number (rest_thread c h' false (leads c h p r)) in
+    let before = own_number c.caller.number (rest_thread c h (not (is_lost r)) p) in
+    omega (arith, f, after, before))
+    (λ lists. let f = made_by (ask_of c own p) r (λ x. 1 + left_ready (leads c h p x) ≤ left_ready p) made.suiting made.made (ready_falls c own h p lists) in omega (arith, f))
 
 table_least : (c : ReceiveCall) (h : Hand) (p : ReceiveAt) (there : Bool) (k : Lock) → IsCounted c h p → rest_of c h true p k ≤ rest_of c h there p k
 table_least c h p there lock.Table i = omega arith
@@ -499,14 +503,14 @@ ready_column c (Pushing (PushFreed d w)) holds = (refl, omega arith)
 table_low : (c : ReceiveCall) (h : Hand) (p : ReceiveAt) (k : Lock) → IsCounted c h p → Holds k (locks_of c p) → rest_of c h true p k + 2 * counted p ≤ left_of c h p k
 table_low c h p k i holds =
     by_lock c h k p (λ (l : Lock). rest_of c h true p l + 2 * counted p ≤ left_of c h p l) holds
-      (λ held. let f = (counts c h p i).0 in let a = own_number c.caller.number (rest_thread c h true p) in let b = own_number c.caller.number (left_thread c h p) in omega (arith, f, a, b))
-      (λ lists. let f = (ready_column c p lists).0 in omega (arith, f))
+    (λ held. let f = (counts c h p i).0 in let a = own_number c.caller.number (rest_thread c h true p) in let b = own_number c.caller.number (left_thread c h p) in omega (arith, f, a, b))
+    (λ lists. let f = (ready_column c p lists).0 in omega (arith, f))
 
 table_high : (c : ReceiveCall) (h : Hand) (p : ReceiveAt) (k : Lock) → IsCounted c h p → Holds k (locks_of c p) → rest_of c h false p k + 2 * counted p ≤ left_of c h p k + 2
 table_high c h p k i holds =
     by_lock c h k p (λ (l : Lock). rest_of c h false p l + 2 * counted p ≤ left_of c h p l + 2) holds
-      (λ held. let f = (counts c h p i).1 in let a = own_number c.caller.number (rest_thread c h false p) in let b = own_number c.caller.number (left_thread c h p) in omega (arith, f, a, b))
-      (λ lists. let f = (ready_column c p lists).0 in omega (arith, f))
+    (λ held. let f = (counts c h p i).1 in let a = own_number c.caller.number (rest_thread c h false p) in let b = own_number c.caller.number (left_thread c h p) in omega (arith, f, a, b))
+    (λ lists. let f = (ready_column c p lists).0 in omega (arith, f))
 
 table_columns : (c : ReceiveCall) (h : Hand) (p : ReceiveAt) (k : Lock) → left_of c h p k ≡ rest_of c h false p k
 table_columns c h p lock.Table = refl
@@ -516,8 +520,8 @@ table_columns c h p lock.Ready = refl
 table_some : (c : ReceiveCall) (h : Hand) (p : ReceiveAt) (k : Lock) → Holds k (locks_of c p) → 1 ≤ left_of c h p k
 table_some c h p k holds =
     by_lock c h k p (λ (l : Lock). 1 ≤ left_of c h p l) holds
-      (λ held. let b = own_number c.caller.number (left_thread c h p) in omega (arith, held, b))
-      (λ lists. (ready_column c p lists).1)
+    (λ held. let b = own_number c.caller.number (left_thread c h p) in omega (arith, held, b))
+    (λ lists. (ready_column c p lists).1)
 
 -- a lock of which steps are left is held
 thread_held : (c : ReceiveCall) (h : Hand) (p : ReceiveAt) (number : ℕ) (b : Bool) → (number == c.caller.number) ≡ b → 1 ≤ (if b then left_thread c h p else 0) → slice_get (locks_of c p) 1 ≡ Some (Some (lock.Thread number))

@@ -138,6 +138,7 @@ falls c own h (Locked (CommitPass w)) held = (λ there m. won there, λ v there 
     won : (there : Bool) → 1 + (if there then 4 else 6) ≤ (if there then 5 else 7)
     won true = omega arith
     won false = omega arith
+
     lost : (there : Bool) → 2 ≤ (if there then 5 else 7)
     lost true = omega arith
     lost false = omega arith
@@ -146,6 +147,7 @@ falls c own h (Locked (WakeReceiver w)) held = (λ there m. won there, λ v ther
     won : (there : Bool) → 1 + rest_thread there (Locked (if w.on then Release release.Passed else AcquireReady w.priority)) ≤ (if there then 4 else 6)
     won true = let f = woken w true in omega (arith, f)
     won false = let f = woken w false in omega (arith, f)
+
     lost : (there : Bool) → there ≡ false → 6 ≤ (if there then 4 else 6)
     lost true q = absurd (false≢true (sym q))
     lost false q = omega arith
@@ -206,6 +208,7 @@ counts (Locked (StoreMail w)) = (go w.on, stop w.on)
     go : (on : Bool) → 6 + 2 * (if on then 1 else 0) ≤ (if on then 8 else 6)
     go true = omega arith
     go false = omega arith
+
     stop : (on : Bool) → 8 + 2 * (if on then 1 else 0) ≤ (if on then 8 else 6) + 2
     stop true = omega arith
     stop false = omega arith
@@ -214,6 +217,7 @@ counts (Locked (CommitPass w)) = (go w.on, stop w.on)
     go : (on : Bool) → 5 + 2 * (if on then 1 else 0) ≤ (if on then 7 else 5)
     go true = omega arith
     go false = omega arith
+
     stop : (on : Bool) → 7 + 2 * (if on then 1 else 0) ≤ (if on then 7 else 5) + 2
     stop true = omega arith
     stop false = omega arith
@@ -285,22 +289,22 @@ by_lock c k (Pushing (PushReceiver priority)) P h thread ready = by_thread c.to.
 table_falls : (c : SendCall) (k : Lock) (own : StateWord) (h : Hand) (p : SendAt) (r : Response) (g : Goods) (there : Bool) → Holds k (locks_of c p) → IsMade (send_table c) own h p r g → (misses (seen_of c p) (ask_of c own p) r ≡ true → there ≡ false) → 1 + rest_of c (hand_came r g (hand_after c h p r)) (there_after there r) (leads c h p r) k ≤ rest_of c h there p k
 table_falls c k own h p r g there holds made m =
     by_lock c k p (λ (l : Lock). 1 + rest_of c (hand_came r g (hand_after c h p r)) (there_after there r) (leads c h p r) l ≤ rest_of c h there p l) holds
-      (λ held.
-        let f = made_by (ask_of c own p) r (Falls c own h p) made.suiting made.made (falls c own h p (λ e. absurd (omega (arith, held, e)))) there m in
-        let after = own_number c.to.number (rest_thread (there_after there r) (leads c h p r)) in
-        let before = own_number c.to.number (rest_thread there p) in
-        omega (arith, f, after, before))
-      (λ lists. made_by (ask_of c own p) r (λ x. 1 + left_ready (leads c h p x) ≤ left_ready p) made.suiting made.made (ready_falls c own h p lists))
+    (λ held.
+    let f = made_by (ask_of c own p) r (Falls c own h p) made.suiting made.made (falls c own h p (λ e. absurd (omega (arith, held, e)))) there m in
+    let after = own_number c.to.number (rest_thread (there_after there r) (leads c h p r)) in
+    let before = own_number c.to.number (rest_thread there p) in
+    omega (arith, f, after, before))
+    (λ lists. made_by (ask_of c own p) r (λ x. 1 + left_ready (leads c h p x) ≤ left_ready p) made.suiting made.made (ready_falls c own h p lists))
 
 table_missed : (c : SendCall) (k : Lock) (own : StateWord) (h : Hand) (p : SendAt) (r : Response) (g : Goods) → Holds k (locks_of c p) → IsMade (send_table c) own h p r g → 1 + rest_of c (hand_came r g (hand_after c h p r)) false (leads c h p r) k ≤ rest_of c h (not (is_lost r)) p k + 2
 table_missed c k own h p r g holds made =
     by_lock c k p (λ (l : Lock). 1 + rest_of c (hand_came r g (hand_after c h p r)) false (leads c h p r) l ≤ rest_of c h (not (is_lost r)) p l + 2) holds
-      (λ held.
-        let f = made_by (ask_of c own p) r (Misses c own h p) made.suiting made.made (missed c own h p (λ e. absurd (omega (arith, held, e)))) in
-        let after = own_number c.to.number (rest_thread false (leads c h p r)) in
-        let before = own_number c.to.number (rest_thread (not (is_lost r)) p) in
-        omega (arith, f, after, before))
-      (λ lists. let f = made_by (ask_of c own p) r (λ x. 1 + left_ready (leads c h p x) ≤ left_ready p) made.suiting made.made (ready_falls c own h p lists) in omega (arith, f))
+    (λ held.
+    let f = made_by (ask_of c own p) r (Misses c own h p) made.suiting made.made (missed c own h p (λ e. absurd (omega (arith, held, e)))) in
+    let after = own_number c.to.number (rest_thread false (leads c h p r)) in
+    let before = own_number c.to.number (rest_thread (not (is_lost r)) p) in
+    omega (arith, f, after, before))
+    (λ lists. let f = made_by (ask_of c own p) r (λ x. 1 + left_ready (leads c h p x) ≤ left_ready p) made.suiting made.made (ready_falls c own h p lists) in omega (arith, f))
 
 table_least : (c : SendCall) (h : Hand) (p : SendAt) (there : Bool) (k : Lock) → rest_of c h true p k ≤ rest_of c h there p k
 table_least c h p there lock.Table = omega arith
@@ -325,14 +329,14 @@ ready_column c (Pushing (PushReceiver priority)) holds = (refl, omega arith)
 table_low : (c : SendCall) (h : Hand) (p : SendAt) (k : Lock) → Holds k (locks_of c p) → rest_of c h true p k + 2 * counted p ≤ left_of c h p k
 table_low c h p k holds =
     by_lock c k p (λ (l : Lock). rest_of c h true p l + 2 * counted p ≤ left_of c h p l) holds
-      (λ held. let f = (counts p).0 in let a = own_number c.to.number (rest_thread true p) in let b = own_number c.to.number (left_thread p) in omega (arith, f, a, b))
-      (λ lists. let f = (ready_column c p lists).0 in omega (arith, f))
+    (λ held. let f = (counts p).0 in let a = own_number c.to.number (rest_thread true p) in let b = own_number c.to.number (left_thread p) in omega (arith, f, a, b))
+    (λ lists. let f = (ready_column c p lists).0 in omega (arith, f))
 
 table_high : (c : SendCall) (h : Hand) (p : SendAt) (k : Lock) → Holds k (locks_of c p) → rest_of c h false p k + 2 * counted p ≤ left_of c h p k + 2
 table_high c h p k holds =
     by_lock c k p (λ (l : Lock). rest_of c h false p l + 2 * counted p ≤ left_of c h p l + 2) holds
-      (λ held. let f = (counts p).1 in let a = own_number c.to.number (rest_thread false p) in let b = own_number c.to.number (left_thread p) in omega (arith, f, a, b))
-      (λ lists. let f = (ready_column c p lists).0 in omega (arith, f))
+    (λ held. let f = (counts p).1 in let a = own_number c.to.number (rest_thread false p) in let b = own_number c.to.number (left_thread p) in omega (arith, f, a, b))
+    (λ lists. let f = (ready_column c p lists).0 in omega (arith, f))
 
 table_columns : (c : SendCall) (h : Hand) (p : SendAt) (k : Lock) → left_of c h p k ≡ rest_of c h (stays p) p k
 table_columns c h p lock.Table = refl
@@ -342,8 +346,8 @@ table_columns c h p lock.Ready = refl
 table_some : (c : SendCall) (h : Hand) (p : SendAt) (k : Lock) → Holds k (locks_of c p) → 1 ≤ left_of c h p k
 table_some c h p k holds =
     by_lock c k p (λ (l : Lock). 1 ≤ left_of c h p l) holds
-      (λ held. let b = own_number c.to.number (left_thread p) in omega (arith, held, b))
-      (λ lists. (ready_column c p lists).1)
+    (λ held. let b = own_number c.to.number (left_thread p) in omega (arith, held, b))
+    (λ lists. (ready_column c p lists).1)
 
 -- a lock of which steps are left is held
 thread_held : (c : SendCall) (p : SendAt) (number : ℕ) (b : Bool) → (number == c.to.number) ≡ b → 1 ≤ (if b then left_thread p else 0) → slice_get (locks_of c p) 1 ≡ Some (Some (lock.Thread number))

@@ -1,16 +1,16 @@
-// Sections walked along each of their ways on, by answers made by hand: the step, the locks and the steps left at each
+// Each section walked along its longest way, by answers made by hand: the step, the locks, the steps left and the event at each
 // location.
-ghost use Rattle.std.specs.Prelude.{◌≡◌, ◌<◌, ◌≤◌, ℕ, true, false};
+ghost use Rattle.std.specs.Prelude.{◌≡◌, true};
 ghost use Rattle.k_ids.specs.StateWords.{IsStateSpelling, state_word_of};
 ghost use Rattle.k_locks.specs.Threads.{IsThread};
 ghost use Rattle.k_locks.specs.Locks.{guards};
-ghost use Rattle.k_locks.specs.Steps.{suits};
+ghost use Rattle.k_locks.specs.Steps.{suits, suits_told};
 
 mod receives;
 mod sends;
 
-use k_ids::{Found, NoMemory, StateWord, Status, ThreadId};
-use k_locks::{Answer, Goods, Lock, Step, Went, WordName};
+use k_ids::{Message, NoMemory, StateWord, ThreadId};
+use k_locks::{Answer, Goods, Lock, Point, Step, Told, Went, WordName};
 use k_ready::ReadyLists;
 use k_senders::{SenderEntry, Senders};
 use std::alloc::Global;
@@ -27,27 +27,22 @@ enum Look {
     Other,
 }
 
-/// What a section is told.
+/// What a section is told, or the goods that it gets.
 #[derive(Clone, Copy)]
-enum Told {
-    Loaded(u64),
-    Stored,
-    Won,
-    Lost(u64),
+enum Given {
+    Plain(Told),
     /// The lock is got, with an empty queue.
     Empty,
     /// The lock is got, with a queue in which thread 2.1 waits with 5 6, and then thread 3.1 with 7 8.
     Both,
     /// The ready lock is got, with empty lists.
     Lists,
-    Owned,
-    Released,
 }
 
 /// A location as a table has it: its step, how many steps are left until the thread lock and the ready lock are released, or 0
-/// of a lock that isn't held, what the section is told, and how it goes on.
+/// of a lock that isn't held, what the section is told, how it goes on, and the event of the step.
 #[derive(Clone, Copy)]
-struct Row(Look, u32, u32, Told, Went);
+struct Row(Look, u32, u32, Given, Went, Option<Point>);
 
 fn shown(step: &Step) -> Look {
     match step {
@@ -69,7 +64,7 @@ fn size(goods: &Goods) -> u64 {
     match goods {
         Goods::Senders(queue) => queue.len() as u64,
         Goods::Ready(lists) => lists.mask(),
-        Goods::Numbers(numbers) => numbers.present,
+        Goods::Numbers(numbers) => u64::from(numbers.alive()),
     }
 }
 
@@ -89,27 +84,29 @@ fn fits(step: &Step, answer: &Answer) -> bool
     ensures { result ≡ true → suits step.now answer.now ≡ true }
 {
     match (step, answer) {
-        (Step::Load(_), Answer::Loaded(_)) => true,
-        (Step::Store { word: _, value: _ }, Answer::Stored) => true,
-        (
-            Step::Exchange {
-                word: _,
-                old: _,
-                new: _,
-            },
-            Answer::Won,
-        ) => true,
-        (
-            Step::Exchange {
-                word: _,
-                old: _,
-                new: _,
-            },
-            Answer::Lost { found: _ },
-        ) => true,
         (Step::Acquire(lock), Answer::Got(goods)) => belong(lock, goods),
-        (Step::Acquire(_), Answer::Owned { owner: _ }) => true,
-        (Step::Release { lock: _, goods: _ }, Answer::Released) => true,
+        (_, Answer::Got(_)) => false,
+        (_, Answer::Told(told)) => can_tell(step, *told),
+    }
+}
+
+// Whether this can be told of the step.
+fn can_tell(step: &Step, told: Told) -> bool
+    ensures { result ≡ true → suits_told step.now told ≡ true }
+{
+    match (step, told) {
+        (Step::Load(_), Told::Loaded(_)) => true,
+        (Step::Store { word: _, value: _ }, Told::Stored) => true,
+        (
+            Step::Exchange {
+                word: _,
+                old: _,
+                new: _,
+            },
+            Told::Won | Told::Lost { found: _ },
+        ) => true,
+        (Step::Acquire(_), Told::Owned { owner: _ }) => true,
+        (Step::Release { lock: _, goods: _ }, Told::Released) => true,
         _ => false,
     }
 }
@@ -142,28 +139,13 @@ const RUN: u64 = 0x0500_0004_0000_0009;
 
 const SENT: u64 = 0x0500_0004_0000_0049;
 
-const GONE: u64 = 0x0500_0004_0000_00C9;
-
 const PICKING: u64 = 0x0500_0004_0000_003B;
-
-const OPEN: u64 = 0x0500_0004_0000_002B;
-
-const ENDED: u64 = 0x0500_0004_0000_0004;
-
-// A thread of version 2 that runs.
-const NEXT_RUN: u64 = 0x0500_0008_0000_0009;
 
 const FROM_0: u64 = 0x0500_0004_0000_400B;
 
 const FROM_1: u64 = 0x0500_0004_0000_410B;
 
-const FROM_2: u64 = 0x0500_0004_0000_420B;
-
 const TO_1: u64 = 0x0500_0004_0000_410A;
-
-const TO_2: u64 = 0x0500_0004_0000_420A;
-
-const JOINED_TO_1: u64 = 0x0500_0004_0000_411A;
 
 // The same word, off.
 fn off(bits: u64) -> u64 {
@@ -178,61 +160,54 @@ fn id(number: u8) -> ThreadId
 
 // Locations at which no lock is held, or the thread lock alone.
 fn load(word: WordName, left: u32, bits: u64) -> Row {
-    Row(Look::Load(word), left, 0, Told::Loaded(bits), Went::On)
+    let told = Given::Plain(Told::Loaded(bits));
+    Row(Look::Load(word), left, 0, told, Went::On, None)
 }
 
-fn won(word: WordName, left: u32, old: u64, new: u64) -> Row {
-    Row(Look::Exchange(word, old, new), left, 0, Told::Won, Went::On)
-}
-
-fn lost(word: WordName, left: u32, old: u64, new: u64, found: u64) -> Row {
+fn won(word: WordName, left: u32, old: u64, new: u64, point: Option<Point>) -> Row {
+    let told = Given::Plain(Told::Won);
     Row(
         Look::Exchange(word, old, new),
         left,
         0,
-        Told::Lost(found),
+        told,
         Went::On,
+        point,
     )
 }
 
-fn lists(left: u32) -> Row {
-    Row(Look::Acquire(Lock::Ready), left, 0, Told::Lists, Went::On)
-}
-
-fn lists_owned(left: u32) -> Row {
+fn lost(word: WordName, left: u32, old: u64, new: u64, found: u64) -> Row {
+    let told = Given::Plain(Told::Lost { found });
     Row(
-        Look::Acquire(Lock::Ready),
+        Look::Exchange(word, old, new),
         left,
         0,
-        Told::Owned,
-        Went::Again,
+        told,
+        Went::On,
+        None,
     )
+}
+
+fn owned(lock: Lock, left: u32) -> Row {
+    let told = Given::Plain(Told::Owned { owner: 3 });
+    Row(Look::Acquire(lock), left, 0, told, Went::Again, None)
+}
+
+fn got(lock: Lock, left: u32, goods: Given) -> Row {
+    Row(Look::Acquire(lock), left, 0, goods, Went::On, None)
 }
 
 // The release of the ready lists, with a thread of priority 20 in them.
 fn pushed() -> Row {
-    Row(
-        Look::Release(Lock::Ready, 1 << 20),
-        2,
-        1,
-        Told::Released,
-        Went::Pushed { priority: 20 },
-    )
+    let told = Given::Plain(Told::Released);
+    let went = Went::Pushed { priority: 20 };
+    Row(Look::Release(Lock::Ready, 1 << 20), 2, 1, told, went, None)
 }
 
 fn release(number: u8, entries: u64, went: Went) -> Row {
-    Row(
-        Look::Release(Lock::Thread(number), entries),
-        1,
-        0,
-        Told::Released,
-        went,
-    )
-}
-
-fn found(number: u8, version: u32, status: Status) -> Found {
-    let id = ThreadId { number, version };
-    Found { id, status }
+    let told = Given::Plain(Told::Released);
+    let step = Look::Release(Lock::Thread(number), entries);
+    Row(step, 1, 0, told, went, None)
 }
 
 // The steps that are made once this row's answer has come.
@@ -257,27 +232,16 @@ fn locks(number: u8, row: Row) -> [Option<Lock>; 3] {
 
 fn both(alloc: Global) -> Result<Senders, NoMemory> {
     let mut queue = Senders::opened(alloc, 4)?;
-    queue.push(SenderEntry {
-        who: 66,
-        message: 25_769_803_781,
-    });
-    queue.push(SenderEntry {
-        who: 67,
-        message: 34_359_738_375,
-    });
+    queue.push(SenderEntry::of(id(2), Message { low: 5, high: 6 }));
+    queue.push(SenderEntry::of(id(3), Message { low: 7, high: 8 }));
     Ok(queue)
 }
 
-fn answer(alloc: Global, told: Told) -> Result<Answer, NoMemory> {
-    Ok(match told {
-        Told::Loaded(bits) => Answer::Loaded(bits),
-        Told::Stored => Answer::Stored,
-        Told::Won => Answer::Won,
-        Told::Lost(found) => Answer::Lost { found },
-        Told::Empty => Answer::Got(Goods::Senders(Senders::opened(alloc, 4)?)),
-        Told::Both => Answer::Got(Goods::Senders(both(alloc)?)),
-        Told::Lists => Answer::Got(Goods::Ready(ReadyLists::opened(alloc)?)),
-        Told::Owned => Answer::Owned { owner: 3 },
-        Told::Released => Answer::Released,
+fn answer(alloc: Global, given: Given) -> Result<Answer, NoMemory> {
+    Ok(match given {
+        Given::Plain(told) => Answer::Told(told),
+        Given::Empty => Answer::Got(Goods::Senders(Senders::opened(alloc, 4)?)),
+        Given::Both => Answer::Got(Goods::Senders(both(alloc)?)),
+        Given::Lists => Answer::Got(Goods::Ready(ReadyLists::opened(alloc)?)),
     })
 }

@@ -168,12 +168,8 @@ impl ReceiveSection {
             done,
         } = self;
         match (location, goods) {
-            (ReceiveLocation::Outside(ReceiveOutside::AcquireOwn), Goods::Senders(queue)) => section(
-                call,
-                own,
-                done,
-                locked(first_locked(call), queue),
-            ),
+            (ReceiveLocation::Outside(ReceiveOutside::AcquireOwn), Goods::Senders(queue)) =>
+                section(call, own, done, locked(first_locked(call), queue)),
             (
                 ReceiveLocation::Locked(ReceiveLocked::AcquireReady(entry), queue),
                 Goods::Ready(lists),

@@ -53,12 +53,7 @@ fn outside_point(call: ReceiveCall, at: ReceiveOutside, told: Told) -> Option<Po
     }
 }
 
-fn locked_point(
-    call: ReceiveCall,
-    at: ReceiveLocked,
-    queue: &Senders,
-    told: Told,
-) -> Option<Point>
+fn locked_point(call: ReceiveCall, at: ReceiveLocked, queue: &Senders, told: Told) -> Option<Point>
     requires sound { IsSoundLocked call at queue.now }
     requires fit { IsFit (Locked at) (answers.Told told) }
     ensures { (caller own : StateWord) → result ≡ points call caller (record nothing { queue = queue.now }) (Locked at) (told_of told (ask_of call own (Locked at))) }
@@ -82,10 +77,7 @@ fn loaded_point(
     ensures { (caller : StateWord) → result ≡ points call caller (record nothing { queue = queue.now }) (Locked at) (asks.Word word.now) }
 {
     match at {
-        ReceiveLocked::LoadOwn if !is_dead(word) => nobody(
-            call,
-            first_candidate(queue, call.from),
-        ),
+        ReceiveLocked::LoadOwn if !is_dead(word) => nobody(call, first_candidate(queue, call.from)),
         ReceiveLocked::LoadSender(entry) if !still_waits(call, entry, word) => nobody(
             call,
             next_candidate(queue, call.from, entry),
@@ -104,9 +96,10 @@ fn won_point(call: ReceiveCall, at: ReceiveLocked) -> Option<Point>
     ensures { (caller : StateWord) (h : Hand) → result ≡ points call caller h (Locked at) asks.Won }
 {
     match at {
-        ReceiveLocked::FreeSender(entry, _) | ReceiveLocked::FreeNext(entry, _) => Some(
-            point(call, took(entry)),
-        ),
+        ReceiveLocked::FreeSender(entry, _) | ReceiveLocked::FreeNext(entry, _) => Some(point(
+            call,
+            took(entry),
+        )),
         ReceiveLocked::CommitWait | ReceiveLocked::SettlePick => Some(point(call, Outcome::Waits)),
         _ => None,
     }

@@ -46,12 +46,7 @@ fn outside_point(call: SendCall, at: SendOutside, told: Told) -> Option<Point>
     }
 }
 
-fn locked_point(
-    call: SendCall,
-    caller: &StateWord,
-    at: SendLocked,
-    told: Told,
-) -> Option<Point>
+fn locked_point(call: SendCall, caller: &StateWord, at: SendLocked, told: Told) -> Option<Point>
     requires { IsFit (Locked at) (answers.Told told) }
     ensures { (own : StateWord) (h : Hand) → result ≡ points call caller.now h (Locked at) (told_of told (ask_of call own (Locked at))) }
 {

@@ -7,3 +7,4 @@ mod DestroyLaws
 mod CreateRuns
 mod DestroyRuns
 mod DestroyBound
+mod Tested

@@ -68,10 +68,10 @@ pub enum CreateLocation {
 /// The creation of a thread: a critical section that can stop before any step.
 #[derive(Drop)]
 pub struct CreateSection {
-    call: CreateCall,
-    own: StateWord,
-    location: CreateLocation,
-    done: u32,
+    pub(crate) call: CreateCall,
+    pub(crate) own: StateWord,
+    pub(crate) location: CreateLocation,
+    pub(crate) done: u32,
 }
 
 impl CreateSection {

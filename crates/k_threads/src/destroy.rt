@@ -119,10 +119,10 @@ pub enum DestroyLocation {
 /// The destruction of a thread: a critical section that can stop before any step.
 #[derive(Drop)]
 pub struct DestroySection {
-    call: DestroyCall,
-    own: StateWord,
-    location: DestroyLocation,
-    done: u32,
+    pub(crate) call: DestroyCall,
+    pub(crate) own: StateWord,
+    pub(crate) location: DestroyLocation,
+    pub(crate) done: u32,
 }
 
 impl DestroySection {

@@ -31,6 +31,8 @@ mod create;
 mod destroy;
 mod goods;
 mod laws;
+#[cfg(test)]
+mod tests;
 mod words;
 
 pub use create::CreateSection;

@@ -1,5 +1,5 @@
 // One list: linked rows of threads, by thread number.
-ghost use Rattle.k_ready.specs.Lists.{IsOnceEach, entry_of, has_thread, is_empty, number_of, stands, without};
+ghost use Rattle.k_ready.specs.Lists.{entry_of, has_thread, is_empty, number_of, stands, without};
 ghost use Rattle.std.specs.Prelude.{if◌then◌else◌, ◌==◌, IfOk, Some, false, length, true, ℕ, [], ◌∷◌, ◌++◌, ◌<◌, ◌≡◌};
 
 use k_ids::ThreadId;
@@ -97,13 +97,5 @@ impl Chain {
             Some(entry) => entry,
             None => unreachable!(),
         }
-    }
-
-    /// Does nothing. Its contract tells what holds of each list: each number has one entry at most, and is below 64.
-    pub fn holds(&self)
-        ensures once { IsOnceEach self.now }
-        ensures inside { (number : ℕ) → stands number self.now ≡ true → number < 64 }
-    {
-        self.links.holds();
     }
 }

@@ -16,8 +16,8 @@ SECTIONS = {
     "Send": "crates/k_ipc/specs/SendTable.antt",
     "Receive": "crates/k_ipc/specs/ReceiveTable.antt",
     "Pick": "crates/k_ipc/specs/ReceiveTable.antt",
-    "Create": "crates/k_threads/specs/Create.antt",
-    "Destroy": "crates/k_threads/specs/Destroy.antt",
+    "Create": "crates/k_threads/specs/CreateTable.antt",
+    "Destroy": "crates/k_threads/specs/DestroyTable.antt",
 }
 
 

@@ -39,7 +39,7 @@ use Rattle.k_alone.specs.Alone.{Run, begun, entry_at}
 use Rattle.k_alone.specs.CreateAlone.{create_kind}
 use Rattle.k_shown.proofs.Kept.{pushed}
 use Rattle.k_alone.proofs.Creates.{making}
-use Rattle.k_alone.proofs.Runs.{Goes, arrived, can, load, on, one, places, won, writes}
+use Rattle.k_alone.proofs.Runs.{Goes, arrived, can, load, on, one, places, spelled, won, writes}
 
 -- a create at a location, with what it has in hand, after so many steps
 abbrev pub sec : CreateCall → StateWord → CreateAt → Hand → ℕ → CreateSection
@@ -79,10 +79,6 @@ abbrev pub made_memory : Memory → ThreadId → ℕ → Memory
 made_memory m id priority = with_numbers (pushed (making m id priority) id priority) (with_thread id.number m.numbers)
 
 module _ (c : CreateCall) (serials : ℕ → ℕ) (m : Memory) (own : StateWord) (good : IsSoundMemory m) (call : IsCaller m c.caller own) where
-  -- what a load is told is a spelling
-  told : (n : ℕ) → IsStateSpelling (state_bits (m.word n))
-  told n = state-whole (m.word n) (good.words.words n)
-
   caller_lives : is_dead (state_word_of (state_bits (m.word c.caller.number))) ≡ false
   caller_lives = ap (λ (w : StateWord). is_dead w) (loaded m c.caller.number own (good.words.words c.caller.number) call.word) ∙ ap (λ (x : State). is_dead_state x) call.runs
 
@@ -98,7 +94,7 @@ module _ (c : CreateCall) (serials : ℕ → ℕ) (m : Memory) (own : StateWord)
       let r2 = create_at m (sec c own (Locked (Release (release.Full (alive m.numbers) (worn m.numbers)))) h 2) (e ∷ []) went.On in
       let r3 = create_at m (sec c own (Outside (Ended (went.Ends o))) nothing 3) (e ∷ []) (went.Ends o) in
       on t r0 r1 r3 (record { ask = (refl, tt); tell = (refl, tt) }) refl
-      (on t r1 r2 r3 (record { ask = (refl, tt); tell = (refl, told c.caller.number) }) (load t r1 c.caller.number refl (good.words.words c.caller.number) ∙ rw (caller_lives, none) refl)
+      (on t r1 r2 r3 (record { ask = (refl, tt); tell = (refl, spelled m good c.caller.number) }) (load t r1 c.caller.number refl (good.words.words c.caller.number) ∙ rw (caller_lives, none) refl)
       (on t r2 r3 r3 (record { ask = (refl, tt); tell = (refl, tt) }) refl (arrived t r3)))
 
   pub runs_made : (n : ℕ) → lowest_free m.numbers ≡ Some n → m.word n ≡ dead_word (version_at m.numbers n) → IsStateWord (created_word (version_at m.numbers n + 1) c.priority) → m.context n ≡ Empty → IsVersion (version_at m.numbers n + 1) → IsInNone n m.ready.lists → Goes (create_kind serials) (begun m (create_of c own)) (create_at (made_memory m (new_id m n) c.priority) (sec c own (Outside (Ended (went.Ends (reply.Made (new_id m n))))) nothing 7) (created c serials (outcome.Made (new_id m n)) ∷ []) (went.Ends (reply.Made (new_id m n))))
@@ -123,7 +119,7 @@ module _ (c : CreateCall) (serials : ℕ → ℕ) (m : Memory) (own : StateWord)
       let x = step.Exchange (word.State n) (state_bits (dead_word (id.version - 1))) (state_bits (created_word id.version c.priority)) in
       let old : m.word n ≡ dead_word (id.version - 1) = dead ∙ ap dead_word (omega arith) in
       on t r0 r1 r7 (record { ask = (refl, tt); tell = (refl, tt) }) refl
-      (on t r1 r2 r7 (record { ask = (refl, tt); tell = (refl, told c.caller.number) }) (load t r1 c.caller.number refl (good.words.words c.caller.number) ∙ rw (caller_lives, some) refl)
+      (on t r1 r2 r7 (record { ask = (refl, tt); tell = (refl, spelled m good c.caller.number) }) (load t r1 c.caller.number refl (good.words.words c.caller.number) ∙ rw (caller_lives, some) refl)
       (on t r2 r3 r7 (record { ask = (refl, tt); tell = (refl, tt) }) (one t r2 (step.Place id c.program c.priority) (answer.Told told_by.Placed) mc r3.section None [] went.On refl refl (places m id c.program c.priority empty young) refl refl refl refl)
       (on t r3 r4 r7 (can t r3 (answer.Told told_by.Won) (refl, tt) (won mc n (dead_word (id.version - 1)) (created_word id.version c.priority) old) (refl, tt)) (one t r3 x (answer.Told told_by.Won) mw r4.section (Some e) (e ∷ []) went.On refl (won mc n (dead_word (id.version - 1)) (created_word id.version c.priority) old) (writes mc n (dead_word (id.version - 1)) (created_word id.version c.priority) old new) refl refl refl refl)
       (on t r4 r5 r7 (record { ask = (refl, tt); tell = (refl, tt) }) refl

@@ -50,7 +50,7 @@ use Rattle.k_shown.specs.Memory.{Memory, table, waiting_of, with_word, with_queu
 use Rattle.k_shown.specs.Sound.{IsCaller, IsSoundMemory}
 use Rattle.k_alone.specs.Alone.{Run, begun, entry_at}
 use Rattle.k_alone.specs.DestroyAlone.{destroy_kind}
-use Rattle.k_alone.proofs.Runs.{Goes, arrived, can, load, on, one, removes, won, writes}
+use Rattle.k_alone.proofs.Runs.{Goes, arrived, can, load, on, one, removes, spelled, won, writes}
 use Rattle.k_alone.proofs.SendRuns.{caller_read, put_back_same, read_word}
 use Rattle.k_alone.proofs.FreeRuns.{IsWaiter, at, hand_with}
 
@@ -81,16 +81,12 @@ abbrev pub destroyed : DestroyCall → (ℕ → ℕ) → Outcome → Entry
 destroyed c serials o = entry_at serials (point_of c o)
 
 module _ (c : DestroyCall) (serials : ℕ → ℕ) (m : Memory) (own : StateWord) (good : IsSoundMemory m) (call : IsCaller m c.caller own) where
-  -- what a load is told is a spelling
-  told : (n : ℕ) → IsStateSpelling (state_bits (m.word n))
-  told n = state-whole (m.word n) (good.words.words n)
-
   pub runs_own : same_id c.who c.caller ≡ true → Goes (destroy_kind serials) (begun m (destroy_of c own)) (at c own m (Outside (Ended (went.Ends reply.Own))) nothing (destroyed c serials outcome.Own ∷ []) (went.Ends reply.Own) 1)
   runs_own same =
       let t = destroy_kind serials in
       let r0 = begun m (destroy_of c own) in
       let r1 = at c own m (Outside (Ended (went.Ends reply.Own))) nothing (destroyed c serials outcome.Own ∷ []) (went.Ends reply.Own) 1 in
-      on t r0 r1 r1 (rw same (record { ask = (refl, tt); tell = (refl, told c.caller.number) })) (load t r0 c.caller.number (rw same refl) (good.words.words c.caller.number) ∙ rw (same, caller_read m c.caller own good call) refl) (arrived t r1)
+      on t r0 r1 r1 (rw same (record { ask = (refl, tt); tell = (refl, spelled m good c.caller.number) })) (load t r0 c.caller.number (rw same refl) (good.words.words c.caller.number) ∙ rw (same, caller_read m c.caller own good call) refl) (arrived t r1)
 
   -- up to the load of the victim's word
   to_victim : (final : Run DestroySection) → same_id c.who c.caller ≡ false → Goes (destroy_kind serials) (at c own m (Victim LoadVictim) (hand_with m.numbers (m.queue c.who.number) no_lists) [] went.On 3) final → Goes (destroy_kind serials) (begun m (destroy_of c own)) final
@@ -102,7 +98,7 @@ module _ (c : DestroyCall) (serials : ℕ → ℕ) (m : Memory) (own : StateWord
       let r2 = at c own m (Locked AcquireVictimLock) (hand_with m.numbers no_queue no_lists) [] went.On 2 in
       let r3 = at c own m (Victim LoadVictim) (hand_with m.numbers (m.queue c.who.number) no_lists) [] went.On 3 in
       on t r0 r1 final (rw other (record { ask = (refl, tt); tell = (refl, tt) })) (rw other refl)
-      (on t r1 r2 final (record { ask = (refl, tt); tell = (refl, told c.caller.number) }) (load t r1 c.caller.number refl (good.words.words c.caller.number) ∙ rw (caller_read m c.caller own good call) refl)
+      (on t r1 r2 final (record { ask = (refl, tt); tell = (refl, spelled m good c.caller.number) }) (load t r1 c.caller.number refl (good.words.words c.caller.number) ∙ rw (caller_read m c.caller own good call) refl)
       (on t r2 r3 final (record { ask = (refl, tt); tell = (refl, tt) }) refl rest))
 
   pub runs_absent : same_id c.who c.caller ≡ false → is_present_in (m.word c.who.number) c.who ≡ false → Goes (destroy_kind serials) (begun m (destroy_of c own)) (at c own m (Outside (Ended (went.Ends (reply.Absent (found_in c.who.number (m.word c.who.number)))))) nothing (destroyed c serials (outcome.Absent (found_in c.who.number (m.word c.who.number))) ∷ []) (went.Ends (reply.Absent (found_in c.who.number (m.word c.who.number)))) 6)
@@ -116,7 +112,7 @@ module _ (c : DestroyCall) (serials : ℕ → ℕ) (m : Memory) (own : StateWord
       let r5 = at c own m (Locked (Release (release.Absent f))) (hand_with m.numbers no_queue no_lists) (e ∷ []) went.On 5 in
       let r6 = at c own m (Outside (Ended (went.Ends (reply.Absent f)))) nothing (e ∷ []) (went.Ends (reply.Absent f)) 6 in
       to_victim r6 other
-      (on t r3 r4 r6 (record { ask = (refl, tt); tell = (refl, told c.who.number) }) (load t r3 c.who.number refl (good.words.words c.who.number) ∙ rw (read_word m c.who.number good, gone) refl)
+      (on t r3 r4 r6 (record { ask = (refl, tt); tell = (refl, spelled m good c.who.number) }) (load t r3 c.who.number refl (good.words.words c.who.number) ∙ rw (read_word m c.who.number good, gone) refl)
       (on t r4 r5 r6 (record { ask = (refl, tt); tell = (refl, tt) }) (one t r4 (step.Release (lock.Thread c.who.number) (goods.Senders q)) (answer.Told told_by.Released) m r5.section None (e ∷ []) went.On refl refl (put_back_same m c.who.number) refl refl refl refl)
       (on t r5 r6 r6 (record { ask = (refl, tt); tell = (refl, tt) }) refl (arrived t r6))))
 
@@ -134,7 +130,7 @@ module _ (c : DestroyCall) (serials : ℕ → ℕ) (m : Memory) (own : StateWord
       let r4 = at c own m (Victim (CommitKill w)) (hand_with m.numbers q no_lists) [] went.On 4 in
       let r5 = at c own m1 (Victim (free_first q.entries)) (hand_with m.numbers q no_lists) (e ∷ []) went.On 5 in
       to_victim r5 other
-      (on t r3 r4 r5 (record { ask = (refl, tt); tell = (refl, told n) }) (load t r3 n refl (good.words.words n) ∙ rw (read_word m n good, here) refl)
+      (on t r3 r4 r5 (record { ask = (refl, tt); tell = (refl, spelled m good n) }) (load t r3 n refl (good.words.words n) ∙ rw (read_word m n good, here) refl)
       (on t r4 r5 r5 (can t r4 (answer.Told told_by.Won) (refl, tt) (won m n w d refl) (refl, tt)) (one t r4 (step.Exchange (word.State n) (state_bits w) (state_bits d)) (answer.Told told_by.Won) m1 r5.section (Some e) (e ∷ []) went.On refl (won m n w d refl) (writes m n w d refl sound) refl refl refl refl) (arrived t r5)))
 
 -- After the senders: the victim's lock is released, it leaves the ready lists, and its context is removed.

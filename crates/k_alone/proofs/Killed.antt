@@ -26,11 +26,8 @@ use Rattle.k_shown.specs.Sound.{IsReady, IsSoundMemory}
 use Rattle.k_shown.proofs.Kept.{room_kept}
 use Rattle.k_alone.proofs.Killing.{Half, Listed}
 use Rattle.k_alone.proofs.Unlinked.{has_stands, listed_map, without_it_all, without_it_once}
+use Rattle.k_shown.proofs.TableRows.{killed_size}
 use Rattle.k_shown.proofs.Statuses.{dead_sends, dead_waits}
-
-size_killed : (k : KernelState) (who : ThreadId) → (killed k who).size ≡ k.size
-unfolding killed
-size_killed k who = refl
 
 module _ (m : Memory) (k : KernelState) (who me : ThreadId) (serial : ℕ) (h : Shows m k) (good : IsSoundMemory m) (here : is_present (table m) who ≡ true) (ne : me.number ≢ who.number) (runs : (k.place me.number).status ≡ status.Run) where
   version_is : (m.word who.number).version ≡ who.version
@@ -64,7 +61,7 @@ module _ (m : Memory) (k : KernelState) (who me : ThreadId) (serial : ℕ) (h : 
   pub half_killed : Half m k who me (Unit {0}) (λ t. waits t (m.queue who.number).entries ≡ true) (λ t. Unit {0}) killed_memory (answered (killed k who) me serial reply.Killed)
   half_killed = record {
     size = refl;
-    table_size = size_killed k who ∙ h.size;
+    table_size = killed_size k who ∙ h.size;
     version = λ n. upd_cases (λ (w : StateWord). w.version ≡ (m.word n).version) m.word who.number (dead_word who.version) n (λ e. sym version_is ∙ ap (λ (x : ℕ). (m.word x).version) (sym e)) (λ _. refl);
     alive = λ n other. ap (λ (w : StateWord). is_dead (shows w.state)) (upd_other m.word who.number (dead_word who.version) n other);
     dead = upd_same m.word who.number (dead_word who.version);

@@ -42,16 +42,7 @@ use Rattle.k_alone.proofs.ReceiveLeft.{or_joined, pushed_left, taken_left, taken
 use Rattle.k_alone.proofs.Made.{makes_one, reply_first}
 use Rattle.k_alone.proofs.ReceiveLaw.{IsSender, sender_found, present_stays}
 use Rattle.k_alone.proofs.PickRuns.{runs_settled, runs_picked, runs_picked_off, picked}
-use Rattle.k_shown.proofs.Statuses.{run_sends, run_waits}
-
-any_sends : (id : ThreadId) → status.Receiving None ≡ status.Sending id → ⊥
-any_sends id e = cc
-
-any_waits : (id : ThreadId) → status.Receiving None ≡ status.Receiving (Some id) → ⊥
-any_waits id e = let no_one : None ≡ Some id = one e in cc
-  where
-    one : status.Receiving None ≡ status.Receiving (Some id) → None ≡ Some id
-    one e = cc
+use Rattle.k_shown.proofs.Statuses.{any_sends, any_waits, run_sends, run_waits}
 
 -- who waits is wanted by one who receives from any
 nobody_wants : (es : List SenderEntry) → first_admitted None es ≡ None → map waiting_of es ≡ []

@@ -44,16 +44,12 @@ use Rattle.k_shown.proofs.Kept.{off_nowhere, pushed}
 use Rattle.k_alone.proofs.Receives.{taken_word, without_entry, words_taken}
 use Rattle.k_shown.proofs.States.{on_word}
 use Rattle.k_shown.specs.Words.{on_with}
-use Rattle.k_alone.proofs.Runs.{Goes, arrived, can, load, on, one, won, writes}
+use Rattle.k_alone.proofs.Runs.{Goes, arrived, can, load, on, one, spelled, won, writes}
 use Rattle.k_alone.proofs.SendRuns.{read_word, put_back_same}
 use Rattle.k_alone.proofs.ReceiveRuns.{entry_by, sec, receive_at, freed_is}
 use Rattle.k_shown.proofs.Statuses.{same_self}
 
 module _ (me : ThreadId) (serial : ℕ) (m : Memory) (own : StateWord) (good : IsSoundMemory m) where
-  -- what a load is told is a spelling
-  told : (n : ℕ) → IsStateSpelling (state_bits (m.word n))
-  told n = state-whole (m.word n) (good.words.words n)
-
   -- a message has come meanwhile
   pub runs_delivered : IsDelivered m me → MakesNothing (receive_kind serial) (begun m (receive_of (pick_call me) own))
   unfolding lock_bits
@@ -66,7 +62,7 @@ module _ (me : ThreadId) (serial : ℕ) (m : Memory) (own : StateWord) (good : I
       let r2 = receive_at m (sec c own (location.Locked (Release release.Delivered) q) 2) [] went.On in
       let r3 = receive_at m (sec c own (location.Outside (Ended went.Waits)) 3) [] went.Waits in
       let g = on t r0 r1 r3 (record { ask = (refl, tt); tell = (refl, tt) }) refl
-      (on t r1 r2 r3 (record { ask = (refl, tt); tell = (refl, told me.number) }) (load t r1 me.number refl (good.words.words me.number) ∙ rw (read_word m me.number good, d.runs) refl)
+      (on t r1 r2 r3 (record { ask = (refl, tt); tell = (refl, spelled m good me.number) }) (load t r1 me.number refl (good.words.words me.number) ∙ rw (read_word m me.number good, d.runs) refl)
       (on t r2 r3 r3 (record { ask = (refl, tt); tell = (refl, tt) }) (one t r2 (step.Release (lock.Thread me.number) (goods.Senders q)) (answer.Told told_by.Released) m r3.section None [] went.Waits refl refl (put_back_same m me.number) refl refl refl refl) (arrived t r3))) in
       record { steps = g.steps; final = r3; runs = g.runs; able = g.able; entries = refl; memory = refl; waits = refl }
 
@@ -93,7 +89,7 @@ module _ (me : ThreadId) (serial : ℕ) (m : Memory) (own : StateWord) (good : I
         let r3 = receive_at m1 (sec c v (location.Locked (Release release.Waits) q) 3) (e ∷ []) went.On in
         let r4 = receive_at m1 (sec c v (location.Outside (Ended went.Waits)) 4) (e ∷ []) went.Waits in
         on t r0 r1 r4 (record { ask = (refl, tt); tell = (refl, tt) }) refl
-        (on t r1 r2 r4 (record { ask = (refl, tt); tell = (refl, told me.number) }) (load t r1 me.number refl (good.words.words me.number) ∙ rw (read_word m me.number good, call.word, call.picks, none) refl)
+        (on t r1 r2 r4 (record { ask = (refl, tt); tell = (refl, spelled m good me.number) }) (load t r1 me.number refl (good.words.words me.number) ∙ rw (read_word m me.number good, call.word, call.picks, none) refl)
         (on t r2 r3 r4 (can t r2 (answer.Told told_by.Won) (refl, tt) (won m me.number own v call.word) (refl, tt)) (one t r2 (step.Exchange (word.State me.number) (state_bits own) (state_bits v)) (answer.Told told_by.Won) m1 r3.section (Some e) (e ∷ []) went.On refl (won m me.number own v call.word) (writes m me.number own v call.word (own_sound (state.Receiving None) refl tt)) refl refl refl refl)
         (on t r3 r4 r4 (record { ask = (refl, tt); tell = (refl, tt) }) (one t r3 (step.Release (lock.Thread me.number) (goods.Senders q)) (answer.Told told_by.Released) m1 r4.section None (e ∷ []) went.Waits refl refl (put_back_same m1 me.number) refl refl refl refl) (arrived t r4))))
 
@@ -127,8 +123,8 @@ module _ (me : ThreadId) (serial : ℕ) (m : Memory) (own : StateWord) (good : I
           let r4 = receive_at m1 (sec c own (location.Locked (EndPick e w) q) 4) (o ∷ []) went.On in
           let r5 = receive_at (picked e j) (sec c v (location.Locked (after_free e w) q) 5) (o ∷ []) went.On in
           on t r0 r1 final (record { ask = (refl, tt); tell = (refl, tt) }) refl
-          (on t r1 r2 final (record { ask = (refl, tt); tell = (refl, told me.number) }) (load t r1 me.number refl (good.words.words me.number) ∙ rw (read_word m me.number good, call.word, call.picks, some) refl)
-          (on t r2 r3 final (record { ask = (refl, tt); tell = (refl, told n) }) (load t r2 n refl (good.words.words n) ∙ rw (read_word m n good, waits_still) refl)
+          (on t r1 r2 final (record { ask = (refl, tt); tell = (refl, spelled m good me.number) }) (load t r1 me.number refl (good.words.words me.number) ∙ rw (read_word m me.number good, call.word, call.picks, some) refl)
+          (on t r2 r3 final (record { ask = (refl, tt); tell = (refl, spelled m good n) }) (load t r2 n refl (good.words.words n) ∙ rw (read_word m n good, waits_still) refl)
           (on t r3 r4 final (can t r3 (answer.Told told_by.Won) (refl, tt) (won m n w (freed me w) refl) (refl, tt)) (one t r3 (step.Exchange (word.State n) (state_bits w) (state_bits (freed me w))) (answer.Told told_by.Won) m1 r4.section (Some o) (o ∷ []) went.On refl (won m n w (freed me w) refl) (writes m n w (freed me w) refl freed_sound ∙ ap (with_word m n) (freed_is me w j st)) refl refl refl refl)
           (on t r4 r5 final (can t r4 (answer.Told told_by.Won) (refl, tt) (won m1 me.number own v there) (refl, tt)) (one t r4 (step.Exchange (word.State me.number) (state_bits own) (state_bits v)) (answer.Told told_by.Won) (picked e j) r5.section None (o ∷ []) went.On refl (won m1 me.number own v there) (writes m1 me.number own v there (own_sound (state.Run result4.Plain) refl tt)) refl refl refl refl)
           rest))))

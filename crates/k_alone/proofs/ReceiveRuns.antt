@@ -52,7 +52,7 @@ use Rattle.k_shown.proofs.Kept.{off_nowhere, pushed}
 use Rattle.k_alone.proofs.Receives.{taking, taken_word, without_entry, receiving, words_taken}
 use Rattle.k_shown.proofs.States.{on_word}
 use Rattle.k_shown.specs.Words.{on_with}
-use Rattle.k_alone.proofs.Runs.{Goes, arrived, can, load, on, one, won, writes}
+use Rattle.k_alone.proofs.Runs.{Goes, arrived, can, load, on, one, spelled, won, writes}
 use Rattle.k_alone.proofs.SendRuns.{read_word, caller_read, caller_there, put_back_same}
 use Rattle.k_shown.proofs.Alike.{dead_same}
 use Rattle.k_shown.proofs.Statuses.{same_self}
@@ -72,16 +72,12 @@ freed_is me w true st = rw st refl
 freed_is me w false st = rw st refl
 
 module _ (c : ReceiveCall) (serial : ℕ) (m : Memory) (own : StateWord) (good : IsSoundMemory m) (call : IsCaller m c.caller own) where
-  -- what a load is told is a spelling
-  told : (n : ℕ) → IsStateSpelling (state_bits (m.word n))
-  told n = state-whole (m.word n) (good.words.words n)
-
   pub runs_own : is_own c.from c.caller ≡ true → c.picks ≡ false → Goes (receive_kind serial) (begun m (receive_of c own)) (receive_at m (sec c own (location.Outside (Ended (went.Ends reply.Own))) 1) (entry_by serial c (act.Call (phase.Receive c.from c.zero)) outcome.Own ∷ []) (went.Ends reply.Own))
   runs_own same picks =
       let t = receive_kind serial in
       let r0 = begun m (receive_of c own) in
       let r1 = receive_at m (sec c own (location.Outside (Ended (went.Ends reply.Own))) 1) (entry_by serial c (act.Call (phase.Receive c.from c.zero)) outcome.Own ∷ []) (went.Ends reply.Own) in
-      on t r0 r1 r1 (rw same (record { ask = (refl, tt); tell = (refl, told c.caller.number) })) (load t r0 c.caller.number (rw same refl) (good.words.words c.caller.number) ∙ rw (same, caller_read m c.caller own good call, picks) refl) (arrived t r1)
+      on t r0 r1 r1 (rw same (record { ask = (refl, tt); tell = (refl, spelled m good c.caller.number) })) (load t r0 c.caller.number (rw same refl) (good.words.words c.caller.number) ∙ rw (same, caller_read m c.caller own good call, picks) refl) (arrived t r1)
 
   -- nobody waits, and neither does the caller
   pub runs_nobody : is_own c.from c.caller ≡ false → c.picks ≡ false → first_admitted c.from (m.queue c.caller.number).entries ≡ None → c.zero ≡ true → Goes (receive_kind serial) (begun m (receive_of c own)) (receive_at m (sec c own (location.Outside (Ended (went.Ends reply.Nobody))) 3) (entry_by serial c (act.Call (phase.Receive c.from c.zero)) outcome.Nobody ∷ []) (went.Ends reply.Nobody))
@@ -95,7 +91,7 @@ module _ (c : ReceiveCall) (serial : ℕ) (m : Memory) (own : StateWord) (good :
       let r2 = receive_at m (sec c own (location.Locked (Release release.Nobody) q) 2) (e ∷ []) went.On in
       let r3 = receive_at m (sec c own (location.Outside (Ended (went.Ends reply.Nobody))) 3) (e ∷ []) (went.Ends reply.Nobody) in
       on t r0 r1 r3 (rw other (record { ask = (refl, tt); tell = (refl, tt) })) (rw (other, picks) refl)
-      (on t r1 r2 r3 (record { ask = (refl, tt); tell = (refl, told c.caller.number) }) (load t r1 c.caller.number refl (good.words.words c.caller.number) ∙ rw (caller_read m c.caller own good call, none, zero, picks) refl)
+      (on t r1 r2 r3 (record { ask = (refl, tt); tell = (refl, spelled m good c.caller.number) }) (load t r1 c.caller.number refl (good.words.words c.caller.number) ∙ rw (caller_read m c.caller own good call, none, zero, picks) refl)
       (on t r2 r3 r3 (record { ask = (refl, tt); tell = (refl, tt) }) (one t r2 (step.Release (lock.Thread c.caller.number) (goods.Senders q)) (answer.Told told_by.Released) m r3.section None (e ∷ []) (went.Ends reply.Nobody) refl refl (put_back_same m c.caller.number) refl refl refl refl) (arrived t r3)))
 
   -- the caller's word while it waits
@@ -124,7 +120,7 @@ module _ (c : ReceiveCall) (serial : ℕ) (m : Memory) (own : StateWord) (good :
       let r2 = receive_at m (sec c own (location.Locked CommitWait q) 2) [] went.On in
       let r3 = receive_at m1 (sec c v (location.Locked (after_wait c.from) q) 3) (e ∷ []) went.On in
       on t r0 r1 final (rw other (record { ask = (refl, tt); tell = (refl, tt) })) (rw (other, picks) refl)
-      (on t r1 r2 final (record { ask = (refl, tt); tell = (refl, told c.caller.number) }) (load t r1 c.caller.number refl (good.words.words c.caller.number) ∙ rw (caller_read m c.caller own good call, none, long) refl)
+      (on t r1 r2 final (record { ask = (refl, tt); tell = (refl, spelled m good c.caller.number) }) (load t r1 c.caller.number refl (good.words.words c.caller.number) ∙ rw (caller_read m c.caller own good call, none, long) refl)
       (on t r2 r3 final (can t r2 (answer.Told told_by.Won) (refl, tt) (won m me own v call.word) (refl, tt)) (one t r2 (step.Exchange (word.State me) (state_bits own) (state_bits v)) (answer.Told told_by.Won) m1 r3.section (Some e) (e ∷ []) went.On refl (won m me own v call.word) (writes m me own v call.word sound ∙ ap (with_word m me) wait_is) refl (rw picks refl) refl refl)
       rest))
 
@@ -217,8 +213,8 @@ module _ (c : ReceiveCall) (serial : ℕ) (m : Memory) (own : StateWord) (good :
         let r3 = receive_at m (sec c own (location.Locked (FreeSender e w) q) 3) [] went.On in
         let r4 = receive_at freed_memory (sec c own (location.Locked (after_free e w) q) 4) (o ∷ []) went.On in
         on t r0 r1 final (rw other (record { ask = (refl, tt); tell = (refl, tt) })) (rw (other, picks) refl)
-        (on t r1 r2 final (record { ask = (refl, tt); tell = (refl, told c.caller.number) }) (load t r1 c.caller.number refl (good.words.words c.caller.number) ∙ rw (caller_read m c.caller own good call, some) refl)
-        (on t r2 r3 final (record { ask = (refl, tt); tell = (refl, told n) }) (load t r2 n refl (good.words.words n) ∙ rw (read_word m n good, waits_still) refl)
+        (on t r1 r2 final (record { ask = (refl, tt); tell = (refl, spelled m good c.caller.number) }) (load t r1 c.caller.number refl (good.words.words c.caller.number) ∙ rw (caller_read m c.caller own good call, some) refl)
+        (on t r2 r3 final (record { ask = (refl, tt); tell = (refl, spelled m good n) }) (load t r2 n refl (good.words.words n) ∙ rw (read_word m n good, waits_still) refl)
         (on t r3 r4 final (can t r3 (answer.Told told_by.Won) (refl, tt) (won m n w (freed c.caller w) refl) (refl, tt)) (one t r3 (step.Exchange (word.State n) (state_bits w) (state_bits (freed c.caller w))) (answer.Told told_by.Won) freed_memory r4.section (Some o) (o ∷ []) went.On refl (won m n w (freed c.caller w) refl) (writes m n w (freed c.caller w) refl freed_sound ∙ ap (with_word m n) (freed_is c.caller w j st)) refl (rw picks refl) refl refl)
         rest)))
 

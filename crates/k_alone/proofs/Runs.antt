@@ -7,9 +7,9 @@ use Rattle.k_ids.specs.declared.threads.ThreadId.{ThreadId}
 use Rattle.k_ids.specs.declared.context_word.ContextWord.TheVariants.{Empty, Clean}
 use Rattle.k_ids.specs.declared.state_word.StateWord.{StateWord}
 use Rattle.k_ids.specs.ContextWords.{IsVersion, context_bits}
-use Rattle.k_ids.specs.StateWords.{IsStateWord, state_bits}
+use Rattle.k_ids.specs.StateWords.{IsStateSpelling, IsStateWord, state_bits}
 use Rattle.k_ids.proofs.ContextSpelled.{context-read}
-use Rattle.k_ids.proofs.StateSpelled.{state-read}
+use Rattle.k_ids.proofs.StateSpelled.{state-read, state-whole}
 use Rattle.k_locks.specs.declared.locks.WordName.TheVariants as word
 use Rattle.k_locks.specs.declared.steps.Step.{Step}
 use Rattle.k_locks.specs.declared.steps.Step.TheVariants as step
@@ -21,6 +21,7 @@ use Rattle.k_ids.specs.declared.threads.Message.{Message}
 use Rattle.k_ids.specs.Messages.{message_bits}
 use Rattle.k_ids.proofs.MessagePacked.{message-read}
 use Rattle.k_shown.specs.Memory.{Memory, with_context, with_mail, with_word}
+use Rattle.k_shown.specs.Sound.{IsSoundMemory}
 use Rattle.k_alone.specs.Alone.{CanStep, Kind, Run, stepped, run, answered, performed, answer_at}
 use Rattle.k_shown.proofs.States.{upd_self}
 
@@ -92,3 +93,7 @@ removes m id clean = rw (eq-eqb (context_bits (m.context id.number)) (context_bi
 -- A mail is stored.
 pub stores : (m : Memory) (n : ℕ) (message : Message) → message.low < 2 ^ 32 → performed m (step.Store (word.Mail n) (message_bits message)) ≡ with_mail m n message
 stores m n message low = ap (with_mail m n) (message-read message low)
+
+-- What a load is told is a spelling.
+pub spelled : (m : Memory) → IsSoundMemory m → (n : ℕ) → IsStateSpelling (state_bits (m.word n))
+spelled m good n = state-whole (m.word n) (good.words.words n)

@@ -51,7 +51,7 @@ use Rattle.k_shown.proofs.Kept.{off_nowhere, pushed}
 use Rattle.k_alone.proofs.Sends.{passing, waits_at}
 use Rattle.k_shown.proofs.States.{on_word, upd_self}
 use Rattle.k_shown.specs.Words.{on_with}
-use Rattle.k_alone.proofs.Runs.{Goes, arrived, can, load, on, one, stores, won, writes}
+use Rattle.k_alone.proofs.Runs.{Goes, arrived, can, load, on, one, spelled, stores, won, writes}
 
 -- a loaded word is the one that is there
 pub read_word : (m : Memory) (n : ℕ) → IsSoundMemory m → state_word_of (state_bits (m.word n)) ≡ m.word n
@@ -99,16 +99,12 @@ abbrev pub send_at : Memory → SendSection → List Entry → Went → Run Send
 send_at m s es w = record { memory = m; section = s; entries = es; went = w }
 
 module _ (c : SendCall) (serial : ℕ) (m : Memory) (own : StateWord) (good : IsSoundMemory m) (call : IsCaller m c.caller own) where
-  -- what a load is told is a spelling
-  told : (n : ℕ) → IsStateSpelling (state_bits (m.word n))
-  told n = state-whole (m.word n) (good.words.words n)
-
   pub runs_own : same_id c.to c.caller ≡ true → Goes (send_kind serial) (begun m (send_of c own)) (send_at m (sec c own (location.Outside (Ended (went.Ends reply.Own))) 1) (entry_of serial c outcome.Own ∷ []) (went.Ends reply.Own))
   runs_own same =
       let t = send_kind serial in
       let r0 = begun m (send_of c own) in
       let r1 = send_at m (sec c own (location.Outside (Ended (went.Ends reply.Own))) 1) (entry_of serial c outcome.Own ∷ []) (went.Ends reply.Own) in
-      on t r0 r1 r1 (rw same (record { ask = (refl, tt); tell = (refl, told c.caller.number) })) (load t r0 c.caller.number (rw same refl) (good.words.words c.caller.number) ∙ rw (same, caller_read m c.caller own good call) refl) (arrived t r1)
+      on t r0 r1 r1 (rw same (record { ask = (refl, tt); tell = (refl, spelled m good c.caller.number) })) (load t r0 c.caller.number (rw same refl) (good.words.words c.caller.number) ∙ rw (same, caller_read m c.caller own good call) refl) (arrived t r1)
 
   -- refused, by what the receiver's word shows
   pub runs_refused : (r : Reply) (o : Outcome) → same_id c.to c.caller ≡ false → after_receiver c (m.word c.to.number) ≡ Release (release.Refused r) → refusal_of c (m.word c.to.number) ≡ Some (point_of c o) → Goes (send_kind serial) (begun m (send_of c own)) (send_at m (sec c own (location.Outside (Ended (went.Ends r))) 4) (entry_of serial c o ∷ []) (went.Ends r))
@@ -123,9 +119,9 @@ module _ (c : SendCall) (serial : ℕ) (m : Memory) (own : StateWord) (good : Is
       let r3 = send_at m (sec c own (location.Outside (CheckCaller r)) 3) (e ∷ []) went.On in
       let r4 = send_at m (sec c own (location.Outside (Ended (went.Ends r))) 4) (e ∷ []) (went.Ends r) in
       on t r0 r1 r4 (rw other (record { ask = (refl, tt); tell = (refl, tt) })) (rw other refl)
-      (on t r1 r2 r4 (record { ask = (refl, tt); tell = (refl, told c.to.number) }) (load t r1 c.to.number refl (good.words.words c.to.number) ∙ rw (read_word m c.to.number good, caller_there m c.caller own call, leads, tells) refl)
+      (on t r1 r2 r4 (record { ask = (refl, tt); tell = (refl, spelled m good c.to.number) }) (load t r1 c.to.number refl (good.words.words c.to.number) ∙ rw (read_word m c.to.number good, caller_there m c.caller own call, leads, tells) refl)
       (on t r2 r3 r4 (record { ask = (refl, tt); tell = (refl, tt) }) (one t r2 (step.Release (lock.Thread c.to.number) (goods.Senders q)) (answer.Told told_by.Released) m r3.section None (e ∷ []) went.On refl refl (put_back_same m c.to.number) refl refl refl refl)
-      (on t r3 r4 r4 (record { ask = (refl, tt); tell = (refl, told c.caller.number) }) (load t r3 c.caller.number refl (good.words.words c.caller.number) ∙ rw (caller_read m c.caller own good call) refl) (arrived t r4))))
+      (on t r3 r4 r4 (record { ask = (refl, tt); tell = (refl, spelled m good c.caller.number) }) (load t r3 c.caller.number refl (good.words.words c.caller.number) ∙ rw (caller_read m c.caller own good call) refl) (arrived t r4))))
 
   -- the caller waits
   pub runs_queued : same_id c.to c.caller ≡ false → after_receiver c (m.word c.to.number) ≡ CommitWait → refusal_of c (m.word c.to.number) ≡ None → IsPartner c.to → IsRoom c.caller (m.queue c.to.number) → Goes (send_kind serial) (begun m (send_of c own)) (send_at (waits_at m c.caller own (is_joined c.manner) c.to (entry_for c.caller c.message)) (sec c (waiting_word c own) (location.Outside (Ended went.Waits)) 4) (entry_of serial c outcome.Waits ∷ []) went.Waits)
@@ -146,7 +142,7 @@ module _ (c : SendCall) (serial : ℕ) (m : Memory) (own : StateWord) (good : Is
       let r3 = send_at m1 (sec c v (location.Locked (Release release.Queued) q) 3) (e ∷ []) went.On in
       let r4 = send_at (waits_at m c.caller own j c.to (entry_for c.caller c.message)) (sec c v (location.Outside (Ended went.Waits)) 4) (e ∷ []) went.Waits in
       on t r0 r1 r4 (rw other (record { ask = (refl, tt); tell = (refl, tt) })) (rw other refl)
-      (on t r1 r2 r4 (record { ask = (refl, tt); tell = (refl, told c.to.number) }) (load t r1 c.to.number refl (good.words.words c.to.number) ∙ rw (read_word m c.to.number good, caller_there m c.caller own call, leads, tells) refl)
+      (on t r1 r2 r4 (record { ask = (refl, tt); tell = (refl, spelled m good c.to.number) }) (load t r1 c.to.number refl (good.words.words c.to.number) ∙ rw (read_word m c.to.number good, caller_there m c.caller own call, leads, tells) refl)
       (on t r2 r3 r4 (can t r2 (answer.Told told_by.Won) (refl, tt) (won m me own v call.word) (refl, tt)) (one t r2 (step.Exchange (word.State me) (state_bits own) (state_bits v)) (answer.Told told_by.Won) m1 r3.section (Some e) (e ∷ []) went.On refl (won m me own v call.word) (writes m me own v call.word sound ∙ ap (with_word m me) same) refl refl refl refl)
       (on t r3 r4 r4 (record { ask = (refl, room); tell = (refl, tt) }) refl (arrived t r4))))
 
@@ -177,7 +173,7 @@ module _ (c : SendCall) (serial : ℕ) (m : Memory) (own : StateWord) (good : Is
       let r4 = send_at m2 (sec c v (location.Locked (WakeReceiver wt) q) 4) (e ∷ []) went.On in
       let r5 = send_at m3 (sec c v (location.Locked (if wt.on then Release release.Passed else AcquireReady wt.priority) q) 5) (e ∷ []) went.On in
       on t r0 r1 final (rw other (record { ask = (refl, tt); tell = (refl, tt) })) (rw other refl)
-      (on t r1 r2 final (record { ask = (refl, tt); tell = (refl, told c.to.number) }) (load t r1 c.to.number refl (good.words.words c.to.number) ∙ rw (read_word m c.to.number good, caller_there m c.caller own call, leads, tells) refl)
+      (on t r1 r2 final (record { ask = (refl, tt); tell = (refl, spelled m good c.to.number) }) (load t r1 c.to.number refl (good.words.words c.to.number) ∙ rw (read_word m c.to.number good, caller_there m c.caller own call, leads, tells) refl)
       (on t r2 r3 final (record { ask = (refl, tt); tell = (refl, tt) }) (one t r2 (step.Store (word.Mail c.to.number) (message_bits c.message)) (answer.Told told_by.Stored) m1 r3.section None [] went.On refl refl (stores m c.to.number c.message parts.low) refl refl refl refl)
       (on t r3 r4 final (can t r3 (answer.Told told_by.Won) (refl, tt) (won m1 me own v call.word) (refl, tt)) (one t r3 (step.Exchange (word.State me) (state_bits own) (state_bits v)) (answer.Told told_by.Won) m2 r4.section (Some e) (e ∷ []) went.On refl (won m1 me own v call.word) (writes m1 me own v call.word sound ∙ ap (with_word m1 me) same) refl refl refl refl)
       (on t r4 r5 final (can t r4 (answer.Told told_by.Won) (refl, tt) (won m2 c.to.number wt d there) (refl, tt)) (one t r4 (step.Exchange (word.State c.to.number) (state_bits wt) (state_bits d)) (answer.Told told_by.Won) m3 r5.section None (e ∷ []) went.On refl (won m2 c.to.number wt d there) (writes m2 c.to.number wt d there sound2) refl refl refl refl)

@@ -54,7 +54,7 @@ use Rattle.k_alone.proofs.FreeRuns.{Frees, at, call_state, gone_of, hand_with, t
 use Rattle.k_alone.proofs.Gone.{at_level, freed_gone, freed_stays, ids_of, lists_off, lists_on}
 use Rattle.k_alone.proofs.Made.{replay_on}
 use Rattle.k_alone.proofs.Runs.{Goes, arrived, can, loads, on, one, then, won, writes}
-use Rattle.k_shown.proofs.Statuses.{same_self}
+use Rattle.k_shown.proofs.Statuses.{any_waits, same_self}
 
 -- whether a state is that of one who waits for the thread
 receives_from : (who : ThreadId) (s : State) → is_receiving_from who s ≡ true → shows s ≡ status.Receiving (Some who)
@@ -75,13 +75,7 @@ receives_not : (who : ThreadId) (s : State) → shows s ≡ status.Receiving (So
 receives_not who state.Dead e = absurd cc
 receives_not who (state.Run r) e = absurd cc
 receives_not who (state.Sending to joined) e = absurd cc
-receives_not who (state.Receiving None) e = absurd (none_some who e)
-  where
-    none_some : (who : ThreadId) → status.Receiving None ≡ status.Receiving (Some who) → ⊥
-    none_some who e = let f : None ≡ Some who = inner e in cc
-      where
-        inner : status.Receiving None ≡ status.Receiving (Some who) → None ≡ Some who
-        inner e = cc
+receives_not who (state.Receiving None) e = absurd (any_waits who e)
 receives_not who (state.Receiving (Some id)) e = subst (λ (x : ThreadId). same_id id x ≡ true) (some_same id who e) (same_self id)
 receives_not who state.Picking e = absurd cc
 receives_not who state.Ended e = absurd cc

@@ -1,6 +1,7 @@
 -- Statuses that differ, and what equal ones have in common.
-use Rattle.std.proofs.Common.{◌≡◌, true, refl, Option, Some}
+use Rattle.std.proofs.Common.{◌≡◌, true, refl, Option, Some, None}
 use Rattle.std.proofs.lemmas.Bool.{eq-eqb}
+use Rattle.std.proofs.lemmas.Option.{none-some}
 use Rattle.k_ids.specs.declared.threads.ThreadId.{ThreadId}
 use Rattle.k_ids.specs.declared.threads.Status.TheVariants as status
 use Rattle.k_model.specs.State.{same_id}
@@ -34,6 +35,12 @@ receives_sends from id e = cc
 
 pub receives_one : (from : Option ThreadId) (id : ThreadId) → status.Receiving from ≡ status.Receiving (Some id) → from ≡ Some id
 receives_one from id e = cc
+
+pub any_waits : (id : ThreadId) → status.Receiving None ≡ status.Receiving (Some id) → ⊥
+any_waits id e = none-some id (receives_one None id e)
+
+pub any_sends : (id : ThreadId) → status.Receiving None ≡ status.Sending id → ⊥
+any_sends id e = receives_sends None id e
 
 -- an id is its own
 pub same_self : (id : ThreadId) → same_id id id ≡ true

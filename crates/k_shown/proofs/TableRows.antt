@@ -48,7 +48,7 @@ module _ (k : KernelState) (me : ThreadId) (serial : ℕ) where
     unfolding destroy
     destroy_kills e p = rw (e, p) refl
 
-killed_size : (k : KernelState) (who : ThreadId) → (killed k who).size ≡ k.size
+pub killed_size : (k : KernelState) (who : ThreadId) → (killed k who).size ≡ k.size
 unfolding killed
 killed_size k who = refl
 

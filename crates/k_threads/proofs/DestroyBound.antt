@@ -26,7 +26,7 @@ use Rattle.k_threads.specs.declared.destroy.DestroyRelease.TheVariants as releas
 use Rattle.k_threads.specs.declared.destroy.DestroyVictim.TheVariants.{LoadVictim, CommitKill, LoadSender, FreeSender, AcquireReadyForSender, ReleaseVictimLock, ReleaseVictimLockAbsent}
 use Rattle.k_threads.specs.declared.destroy.DestroyVisit.TheVariants.{LoadVisited, FreeVisited, AcquireReadyForVisited, ReleaseVisitedLock}
 use Rattle.k_threads.specs.declared.destroy.DestroyPushing.TheVariants.{PushSender, PushVisited}
-use Rattle.k_threads.specs.DestroyTable.{DestroyAt, Fits, IsOther, IsShort, Locked, Outside, Pushing, UnlistVictim, Victim, Visit, ask_of, but_victim, counted, destroy_table, first_of, free_first, hand_after, in_queue, leads, left_of, left_ready, left_table, left_thread, locks_of, locks_thread, queue_at, rest_of, rest_table, rest_thread, seen_at, to_visit, visit_from, visited_at, visits}
+use Rattle.k_threads.specs.DestroyTable.{DestroyAt, Fits, IsOther, IsShort, Locked, Outside, Pushing, UnlistVictim, Victim, Visit, ask_of, but_victim, counted, destroy_table, first_of, free_first, hand_after, in_queue, leads, left_of, left_ready, left_table, left_thread, locks_of, locks_thread, queue_at, rest_of, rest_table, rest_thread, seen_of, to_visit, visit_from, visited_at, visits}
 use Rattle.k_threads.specs.Goods.{rest, without_first}
 use Rattle.k_threads.specs.Words.{is_receiving_from}
 use Rattle.k_threads.proofs.Held.{nothing_held}
@@ -100,7 +100,7 @@ keeps c own h (Pushing (PushVisited visited seen)) r g f m = made_by (ask_of c o
 
 -- one step, told whether the loaded word is still there
 abbrev FallsTable : DestroyCall → StateWord → Hand → DestroyAt → Goods → Bool → Response → Type 0
-FallsTable c own h p g there r = brings (ask_of c own p) r g ≡ true → IsShort c (hand_came r g (hand_after c h p r)) p r → (misses (seen_at c p) (ask_of c own p) r ≡ true → there ≡ false)
+FallsTable c own h p g there r = brings (ask_of c own p) r g ≡ true → IsShort c (hand_came r g (hand_after c h p r)) p r → (misses (seen_of c p) (ask_of c own p) r ≡ true → there ≡ false)
     → 1 + rest_table c (hand_came r g (hand_after c h p r)) (there_after there r) (leads c h p r) ≤ rest_table c h there p
 
 free_table : (c : DestroyCall) (h : Hand) (there : Bool) (es : List SenderEntry) → length es ≡ in_queue h → rest_table c h there (Victim (free_first es)) ≤ 4 * in_queue h + visits c
@@ -166,7 +166,7 @@ visited_ready k some = omega arith
 visited_pushed : (k : ℕ) → 1 ≤ k → 1 + (6 * k - 4) ≤ 6 * k - 3
 visited_pushed k some = omega arith
 
-table_falls : (c : DestroyCall) (own : StateWord) (h : Hand) (p : DestroyAt) (r : Response) (g : Goods) (there : Bool) → c.who.number < c.count → Fits c h p → Holds lock.Table (locks_of c p) → IsMade (destroy_table c) own h p r g → (misses (seen_at c p) (ask_of c own p) r ≡ true → there ≡ false) → 1 + rest_table c (hand_came r g (hand_after c h p r)) (there_after there r) (leads c h p r) ≤ rest_table c h there p
+table_falls : (c : DestroyCall) (own : StateWord) (h : Hand) (p : DestroyAt) (r : Response) (g : Goods) (there : Bool) → c.who.number < c.count → Fits c h p → Holds lock.Table (locks_of c p) → IsMade (destroy_table c) own h p r g → (misses (seen_of c p) (ask_of c own p) r ≡ true → there ≡ false) → 1 + rest_table c (hand_came r g (hand_after c h p r)) (there_after there r) (leads c h p r) ≤ rest_table c h there p
 table_falls c own h (Outside p) r g there i f holds m = absurd (nothing_held 0 lock.Table holds)
 table_falls c own h (Locked LoadCaller) r g there i f holds m = made_by (ask_of c own (Locked LoadCaller)) r (FallsTable c own h (Locked LoadCaller) g there) m.suiting m.made (λ w b a n. cond_both (is_dead w) _ _ (λ q. 1 + rest_table c h true (Locked q) ≤ 4 * (c.count - 1) + visits c + 4) (λ _. omega arith) (λ _. omega arith)) m.guarded m.allowed
 table_falls c own h (Locked AcquireVictimLock) r g there i f holds m = made_by (ask_of c own (Locked AcquireVictimLock)) r (FallsTable c own h (Locked AcquireVictimLock) g there) m.suiting m.made (λ b a n. omega (arith, a)) m.guarded m.allowed
@@ -192,7 +192,7 @@ table_falls c own h (Pushing (PushVisited visited seen)) r g there i f holds m =
 -- THE THREAD LOCK
 
 abbrev FallsThread : DestroyCall → StateWord → Hand → DestroyAt → Goods → Bool → Response → Type 0
-FallsThread c own h p g there r = brings (ask_of c own p) r g ≡ true → (misses (seen_at c p) (ask_of c own p) r ≡ true → there ≡ false)
+FallsThread c own h p g there r = brings (ask_of c own p) r g ≡ true → (misses (seen_of c p) (ask_of c own p) r ≡ true → there ≡ false)
     → 1 + rest_thread (hand_came r g (hand_after c h p r)) (there_after there r) (leads c h p r) ≤ rest_thread h there p
 
 free_thread : (h : Hand) (there : Bool) (es : List SenderEntry) → length es ≡ in_queue h → rest_thread h there (Victim (free_first es)) ≤ 4 * in_queue h + 1
@@ -249,7 +249,7 @@ thread_held c (Visit p) n e = ap (λ (x : ℕ). Some (Some (lock.Thread x))) (sy
 thread_held c UnlistVictim n e = absurd (false≢true e)
 thread_held c (Pushing p) n e = ap (λ (x : ℕ). Some (Some (lock.Thread x))) (sym (eqb-true n (queue_at c p) e))
 
-thread_falls : (c : DestroyCall) (own : StateWord) (h : Hand) (p : DestroyAt) (r : Response) (g : Goods) (there : Bool) (n : ℕ) → Fits c h p → Holds (lock.Thread n) (locks_of c p) → IsMade (destroy_table c) own h p r g → (misses (seen_at c p) (ask_of c own p) r ≡ true → there ≡ false) → 1 + rest_thread (hand_came r g (hand_after c h p r)) (there_after there r) (leads c h p r) ≤ rest_thread h there p
+thread_falls : (c : DestroyCall) (own : StateWord) (h : Hand) (p : DestroyAt) (r : Response) (g : Goods) (there : Bool) (n : ℕ) → Fits c h p → Holds (lock.Thread n) (locks_of c p) → IsMade (destroy_table c) own h p r g → (misses (seen_of c p) (ask_of c own p) r ≡ true → there ≡ false) → 1 + rest_thread (hand_came r g (hand_after c h p r)) (there_after there r) (leads c h p r) ≤ rest_thread h there p
 thread_falls c own h (Outside p) r g there n f holds m = absurd (nothing_held 1 (lock.Thread n) holds)
 thread_falls c own h (Locked p) r g there n f holds m = absurd cc
 thread_falls c own h UnlistVictim r g there n f holds m = absurd cc
@@ -288,7 +288,7 @@ if_most : (b : Bool) (x : ℕ) → (if b then x else 0) ≤ x
 if_most true x = omega arith
 if_most false x = omega arith
 
-falls : (c : DestroyCall) (k : Lock) (own : StateWord) (h : Hand) (p : DestroyAt) (r : Response) (g : Goods) (there : Bool) → c.who.number < c.count → Fits c h p → Holds k (locks_of c p) → IsMade (destroy_table c) own h p r g → (misses (seen_at c p) (ask_of c own p) r ≡ true → there ≡ false) → 1 + rest_of c (hand_came r g (hand_after c h p r)) (there_after there r) (leads c h p r) k ≤ rest_of c h there p k
+falls : (c : DestroyCall) (k : Lock) (own : StateWord) (h : Hand) (p : DestroyAt) (r : Response) (g : Goods) (there : Bool) → c.who.number < c.count → Fits c h p → Holds k (locks_of c p) → IsMade (destroy_table c) own h p r g → (misses (seen_of c p) (ask_of c own p) r ≡ true → there ≡ false) → 1 + rest_of c (hand_came r g (hand_after c h p r)) (there_after there r) (leads c h p r) k ≤ rest_of c h there p k
 falls c lock.Table own h p r g there i f holds m missed = table_falls c own h p r g there i f holds m missed
 falls c (lock.Thread n) own h p r g there i f holds m missed =
     let t = thread_falls c own h p r g there n f holds m missed in
@@ -497,7 +497,7 @@ fits_first c h = tt
 -- where the loaded word is gone once the step is made
 missed : (c : DestroyCall) (k : Lock) (own : StateWord) (h : Hand) (p : DestroyAt) (r : Response) (g : Goods) → c.who.number < c.count → Fits c h p → Holds k (locks_of c p) → IsMade (destroy_table c) own h p r g → 1 + rest_of c (hand_came r g (hand_after c h p r)) false (leads c h p r) k ≤ rest_of c h (not (is_lost r)) p k + 2
 missed c k own h p r g i f holds m =
-    let l = falls c k own h p r g (not (is_lost r)) i f holds m (lost_missed (seen_at c p) (ask_of c own p) r) in
+    let l = falls c k own h p r g (not (is_lost r)) i f holds m (lost_missed (seen_of c p) (ask_of c own p) r) in
     let a = above_rest c (hand_came r g (hand_after c h p r)) (leads c h p r) (there_after (not (is_lost r)) r) k in
     let w = within c (hand_came r g (hand_after c h p r)) (leads c h p r) false k in
     omega (arith, l, a, w)

@@ -14,7 +14,7 @@ use Rattle.k_locks.specs.Asks.{Response, hand_asked}
 use Rattle.k_locks.specs.Asks as plain
 use Rattle.k_locks.specs.Hands.{Hand, hand_with, trimmed}
 use Rattle.k_locks.specs.Shown.{is_dead}
-use Rattle.k_locks.specs.Steps.{goes_on, suits}
+use Rattle.k_locks.specs.Steps.{goes_on, is_again, suits}
 use Rattle.k_threads.specs.declared.destroy.DestroyCall.{DestroyCall}
 use Rattle.k_threads.specs.declared.destroy.DestroyOutside.TheVariants.{LoadOwn, AcquireTable, Ended}
 use Rattle.k_threads.specs.declared.destroy.DestroyLocked.TheVariants.{LoadCaller, AcquireVictimLock, AcquireReadyForVictim, RemoveContext, AcquireVisitedLock, Release}
@@ -26,8 +26,11 @@ use Rattle.k_threads.specs.declared.destroy.DestroyPushing.TheVariants.{PushSend
 use Rattle.k_threads.specs.declared.destroy.DestroyReturned.TheVariants as returned
 use Rattle.k_threads.specs.declared.destroy.DestroyLocation.{DestroyLocation}
 use Rattle.k_threads.specs.declared.destroy.DestroyLocation.TheVariants as location
-use Rattle.k_threads.specs.DestroyTable.{DestroyAt, IsSoundLocation, Locked, Outside, Pushing, UnlistVictim, Victim, Visit, alive_or_dead, ask_of, asked_location, at_of, can_ask, hand_after, hand_of, is_open, leads, location_with, locks_of, pushed_at, released_end, resumed_location, response_at, step_at, told_at, went_of}
-use Rattle.k_threads.specs.Went.{makes}
+use Rattle.k_threads.specs.DestroyTable.{DestroyAt, IsSoundLocation, Locked, Outside, Pushing, UnlistVictim, Victim, Visit, alive_or_dead, ask_of, asked_location, at_of, can_ask, hand_after, hand_of, is_open, leads, location_with, locks_of, pushed_at, released_end, resumed_location, response_at, next_of, went_at, resumed, resumed_went, heard, step_of, went_of}
+use Rattle.k_threads.specs.Went.{makes, went_on}
+use Rattle.k_threads.specs.Words.{done_after}
+use Rattle.k_threads.specs.declared.destroy.DestroySection.{DestroySection}
+use Rattle.k_locks.proofs.Responses.{again_heard}
 use Rattle.k_threads.proofs.Steps.{made_or_not, never_unmade, on_again, same_answers}
 
 -- A LOCATION AND WHAT IS IN HAND
@@ -118,11 +121,11 @@ asked_hand c own (location.Returned (returned.Pushed (PushSender sender seen) nu
 asked_hand c own (location.Returned (returned.Pushed (PushVisited visited seen) numbers queue)) = refl
 
 -- it can be answered as it could before
-pub asked_suits : (c : DestroyCall) (own : StateWord) (l : DestroyLocation) (a : Answer) → suits (step_at c own (hand_of l) (at_of l)) a ≡ true → suits (step_at c own (hand_of (asked_location l)) (at_of (asked_location l))) a ≡ true
+pub asked_suits : (c : DestroyCall) (own : StateWord) (l : DestroyLocation) (a : Answer) → suits (next_of c own (hand_of l) (at_of l)) a ≡ true → suits (next_of c own (hand_of (asked_location l)) (at_of (asked_location l))) a ≡ true
 asked_suits c own l a e = rw (asked_at l) (same_answers (ask_of c own (at_of l)) (hand_after c (hand_of (asked_location l)) (at_of l) plain.Released) (hand_after c (hand_of l) (at_of l) plain.Released) a ∙ e)
 
 -- the queue of the victim goes back without an entry
-pub empty_back : (c : DestroyCall) (own : StateWord) (l : DestroyLocation) → can_ask l ≡ true → IsSoundLocation c l → at_of l ≡ Victim ReleaseVictimLock → step_at c own (hand_of l) (at_of l) ≡ step.Release (lock.Thread c.who.number) (goods.Senders (record { entries = []; room = (hand_of l).queue.room }))
+pub empty_back : (c : DestroyCall) (own : StateWord) (l : DestroyLocation) → can_ask l ≡ true → IsSoundLocation c l → at_of l ≡ Victim ReleaseVictimLock → next_of c own (hand_of l) (at_of l) ≡ step.Release (lock.Thread c.who.number) (goods.Senders (record { entries = []; room = (hand_of l).queue.room }))
 empty_back c own (location.Victim ReleaseVictimLock numbers queue) o sound at = ap (λ es. step.Release (lock.Thread c.who.number) (goods.Senders (record { entries = es; room = queue.room }))) sound
 empty_back c own (location.Returned r) o sound at = absurd (false≢true o)
 empty_back c own l o sound at = absurd cc
@@ -138,7 +141,7 @@ can_ask_with h UnlistVictim = refl
 can_ask_with h (Pushing p) = refl
 
 -- a section that waits for the answer of a release gets it
-waits_for_it : (c : DestroyCall) (own : StateWord) (l : DestroyLocation) (a : Answer) → suits (step_at c own (hand_of l) (at_of l)) a ≡ true → makes (step_at c own (hand_of l) (at_of l)) a ≡ false → can_ask l ≡ is_open (at_of l)
+waits_for_it : (c : DestroyCall) (own : StateWord) (l : DestroyLocation) (a : Answer) → suits (next_of c own (hand_of l) (at_of l)) a ≡ true → makes (next_of c own (hand_of l) (at_of l)) a ≡ false → can_ask l ≡ is_open (at_of l)
 waits_for_it c own (location.Outside p) a e m = refl
 waits_for_it c own (location.Locked p numbers) a e m = refl
 waits_for_it c own (location.Victim p numbers queue) a e m = refl
@@ -153,8 +156,8 @@ waits_for_it c own (location.Returned (returned.Unlisted numbers)) a e m = absur
 waits_for_it c own (location.Returned (returned.Pushed (PushSender sender seen) numbers queue)) a e m = absurd (never_unmade lock.Ready (hand_after c (hand_of (location.Returned (returned.Pushed (PushSender sender seen) numbers queue))) (at_of (location.Returned (returned.Pushed (PushSender sender seen) numbers queue))) plain.Released) a e m)
 waits_for_it c own (location.Returned (returned.Pushed (PushVisited visited seen) numbers queue)) a e m = absurd (never_unmade lock.Ready (hand_after c (hand_of (location.Returned (returned.Pushed (PushVisited visited seen) numbers queue))) (at_of (location.Returned (returned.Pushed (PushVisited visited seen) numbers queue))) plain.Released) a e m)
 
-pub resumed_answered : (c : DestroyCall) (own : StateWord) (l : DestroyLocation) (a : Answer) → suits (step_at c own (hand_of l) (at_of l)) a ≡ true → can_ask (resumed_location c own l a) ≡ is_open (at_of (resumed_location c own l a))
-resumed_answered c own l a e = elim (made_or_not (makes (step_at c own (hand_of l) (at_of l)) a)) [
+pub resumed_answered : (c : DestroyCall) (own : StateWord) (l : DestroyLocation) (a : Answer) → suits (next_of c own (hand_of l) (at_of l)) a ≡ true → can_ask (resumed_location c own l a) ≡ is_open (at_of (resumed_location c own l a))
+resumed_answered c own l a e = elim (made_or_not (makes (next_of c own (hand_of l) (at_of l)) a)) [
   | inl m ↦ rw m (moved (hand_with a (hand_after c (hand_of l) (at_of l) (response_at c own (at_of l) a))) (leads c (hand_of l) (at_of l) (response_at c own (at_of l) a)))
   | inr m ↦ rw m (waits_for_it c own l a e m)
 ]
@@ -175,7 +178,7 @@ over_own w = go (is_dead w)
     go false = refl
 
 -- whether the section goes on is told
-open_after : (c : DestroyCall) (h : Hand) (p : DestroyAt) (r : Response) → is_open p ≡ true → is_open (leads c h p r) ≡ goes_on (told_at (pushed_at c p) (leads c h p r))
+open_after : (c : DestroyCall) (h : Hand) (p : DestroyAt) (r : Response) → is_open p ≡ true → is_open (leads c h p r) ≡ goes_on (went_at (pushed_at c p) (leads c h p r))
 open_after c h (Outside LoadOwn) r o = grind (arith, common_steps, over_own)
 open_after c h (Outside AcquireTable) r o = grind (arith, common_steps)
 open_after c h (Outside (Ended w)) r o = absurd (false≢true o)
@@ -186,8 +189,28 @@ open_after c h (Visit p) r o = grind (arith, common_steps)
 open_after c h UnlistVictim r o = grind (arith, common_steps)
 open_after c h (Pushing p) r o = grind (arith, common_steps)
 
-pub resumed_open : (c : DestroyCall) (own : StateWord) (l : DestroyLocation) (a : Answer) → is_open (at_of l) ≡ true → is_open (at_of (resumed_location c own l a)) ≡ goes_on (went_of c own (hand_of l) (at_of l) a)
-resumed_open c own l a o = elim (made_or_not (makes (step_at c own (hand_of l) (at_of l)) a)) [
+pub resumed_open : (c : DestroyCall) (own : StateWord) (l : DestroyLocation) (a : Answer) → is_open (at_of l) ≡ true → is_open (at_of (resumed_location c own l a)) ≡ goes_on (resumed_went c own (hand_of l) (at_of l) a)
+resumed_open c own l a o = elim (made_or_not (makes (next_of c own (hand_of l) (at_of l)) a)) [
   | inl m ↦ rw (m, at_with (hand_with a (hand_after c (hand_of l) (at_of l) (response_at c own (at_of l) a))) (leads c (hand_of l) (at_of l) (response_at c own (at_of l) a))) (open_after c (hand_of l) (at_of l) (response_at c own (at_of l) a) o)
   | inr m ↦ rw m (o ∙ sym (on_again a))
 ]
+
+-- BY AN ANSWER THAT THE STEP CAN HAVE, AND BY ANOTHER
+
+pub resumed_suits : (s : DestroySection) (a : Answer) → suits (step_of s) a ≡ true → record s { location = resumed_location s.call s.own s.location a; done = done_after a s.done } ≡ resumed s a
+resumed_suits s a e = elim (made_or_not (is_again a)) [
+  | inl q ↦ rw (e, q) refl
+  | inr q ↦ rw (e, q) refl
+]
+
+pub went_suits : (s : DestroySection) (a : Answer) → suits (step_of s) a ≡ true → resumed_went s.call s.own (hand_of s.location) (at_of s.location) a ≡ went_of s.call (hand_of s.location) (at_of s.location) (heard s a)
+went_suits s a e = elim (made_or_not (is_again a)) [
+  | inl q ↦ rw (e, q, sym (again_heard (ask_of s.call s.own (at_of s.location)) a) ∙ q) refl
+  | inr q ↦ rw (e, q, sym (again_heard (ask_of s.call s.own (at_of s.location)) a) ∙ q) refl
+]
+
+pub resumed_kept : (s : DestroySection) (a : Answer) → suits (step_of s) a ≡ false → record s { location = resumed_location s.call s.own s.location a; done = done_after a s.done } ≡ record s { done = done_after a s.done }
+resumed_kept s a e = rw e refl
+
+pub went_kept : (s : DestroySection) (a : Answer) → suits (step_of s) a ≡ false → resumed_went s.call s.own (hand_of s.location) (at_of s.location) a ≡ went_on a
+went_kept s a e = rw e refl

@@ -29,8 +29,9 @@ use Rattle.k_locks.specs.Asks as plain
 use Rattle.k_locks.specs.Hands.{Hand, nothing, no_lists, no_queue, hand_with, pushed}
 use Rattle.k_locks.specs.Numbers.{ThreadNumbers, alive, lowest_free, version_at, with_thread, worn}
 use Rattle.k_locks.specs.Shown.{is_dead}
+use Rattle.k_locks.specs.Steps.{is_again, one_more}
 use Rattle.k_locks.specs.Tables.{Table}
-use Rattle.k_locks.specs.Threads.{IsThread}
+use Rattle.k_locks.specs.Threads.{IsThread, runs}
 use Rattle.k_threads.specs.declared.create.CreateCall.{CreateCall}
 use Rattle.k_threads.specs.declared.create.CreateOutside.{CreateOutside}
 use Rattle.k_threads.specs.declared.create.CreateOutside.TheVariants.{AcquireTable, Ended}
@@ -42,7 +43,7 @@ use Rattle.k_threads.specs.declared.create.CreateLocation.{CreateLocation}
 use Rattle.k_threads.specs.declared.create.CreateLocation.TheVariants as location
 use Rattle.k_threads.specs.declared.create.CreateSection.{CreateSection}
 use Rattle.k_threads.specs.Goods.{no_lock, only_table, table_and_ready}
-use Rattle.k_threads.specs.Words.{created_word, dead_word, done_after}
+use Rattle.k_threads.specs.Words.{created_word, dead_word}
 use Rattle.k_threads.specs.Went.{makes, went_on}
 
 -- A location: what is held there, and which step comes.
@@ -50,6 +51,10 @@ pub data CreateAt : Type 0 where
   Outside : CreateOutside → CreateAt  -- no lock
   Locked : CreateLocked → CreateAt  -- the table lock
   PushCreated : (id : ThreadId) → CreateAt  -- the table lock and the ready lock, which it releases
+
+-- the first location
+abbrev pub first_of : CreateCall → CreateAt
+first_of c = Outside AcquireTable
 
 -- THE STEP
 
@@ -118,10 +123,10 @@ full_point c numbers (Some number) = None
 
 -- The point of the history that a step makes, if any. `caller` is the caller's state word at this very step; at LoadCaller
 -- it is the word that the step loads.
-abbrev pub points : StateWord → CreateCall → Hand → CreateAt → Response → Option Point
-points caller c h (Locked LoadCaller) (plain.Word w) = if is_dead w then None else full_point c h.numbers (lowest_free h.numbers)
-points caller c h (Locked (CommitCreate id)) plain.Won = Some (point_of c (outcome.Made id))
-points caller c h p r = None
+abbrev pub points : CreateCall → StateWord → Hand → CreateAt → Response → Option Point
+points c caller h (Locked LoadCaller) (plain.Word w) = if is_dead w then None else full_point c h.numbers (lowest_free h.numbers)
+points c caller h (Locked (CommitCreate id)) plain.Won = Some (point_of c (outcome.Made id))
+points c caller h p r = None
 
 -- LOCKS, AND STEPS LEFT
 
@@ -194,13 +199,13 @@ asked_location (location.NumbersReturned r) = location.NumbersReturned r
 
 -- A section at its first location.
 abbrev pub create_of : CreateCall → StateWord → CreateSection
-create_of c own = record { call = c; own = own; location = location.Outside AcquireTable; done = 0 }
+create_of c own = record { call = c; own = own; location = location_with nothing (first_of c); done = 0 }
 
-abbrev pub step_at : CreateCall → StateWord → Hand → CreateAt → Step
-step_at c own h p = step_for (ask_of c own p) (hand_after c h p plain.Released)
+abbrev pub next_of : CreateCall → StateWord → Hand → CreateAt → Step
+next_of c own h p = step_for (ask_of c own p) (hand_after c h p plain.Released)
 
 abbrev pub step_of : CreateSection → Step
-step_of s = step_at s.call s.own (hand_of s.location) (at_of s.location)
+step_of s = next_of s.call s.own (hand_of s.location) (at_of s.location)
 
 abbrev pub asked : CreateSection → CreateSection
 asked s = record s { location = asked_location s.location }
@@ -217,18 +222,35 @@ moved_location c own h p a =
 -- Where it stands after an answer: with one that doesn't make the step it stays where it is.
 abbrev pub resumed_location : CreateCall → StateWord → CreateLocation → Answer → CreateLocation
 resumed_location c own l a =
-    if makes (step_at c own (hand_of l) (at_of l)) a then moved_location c own (hand_of l) (at_of l) a else l
+    if makes (next_of c own (hand_of l) (at_of l)) a then moved_location c own (hand_of l) (at_of l) a else l
 
+-- what an answer tells the section
+abbrev pub heard : CreateSection → Answer → Response
+heard s a = response_at s.call s.own (at_of s.location) a
+
+-- the section after an answer that makes the step
+abbrev pub moved : CreateSection → Answer → CreateSection
+moved s a = record s {
+  own = own_of s.call s.own (at_of s.location) (heard s a);
+  location = moved_location s.call s.own (hand_of s.location) (at_of s.location) a;
+  done = one_more s.done;
+}
+
+-- the section after an answer that the step can have
 abbrev pub resumed : CreateSection → Answer → CreateSection
-resumed s a = record s { location = resumed_location s.call s.own s.location a; done = done_after a s.done }
+resumed s a = if is_again a then s else moved s a
 
 -- how the section goes on
-abbrev pub told_at : Option ℕ → CreateAt → Went
-told_at (Some priority) p = went.Pushed priority
-told_at None p = end_at p
+abbrev pub went_at : Option ℕ → CreateAt → Went
+went_at (Some priority) p = went.Pushed priority
+went_at None p = end_at p
 
-abbrev pub went_of : CreateCall → StateWord → Hand → CreateAt → Answer → Went
-went_of c own h p a = if makes (step_at c own h p) a then told_at (pushed_at c p) (leads c h p (response_at c own p a)) else went_on a
+abbrev pub went_of : CreateCall → Hand → CreateAt → Response → Went
+went_of c h p r = if plain.is_again r then went.Again else went_at (pushed_at c p) (leads c h p r)
+
+-- the same by any answer
+abbrev pub resumed_went : CreateCall → StateWord → Hand → CreateAt → Answer → Went
+resumed_went c own h p a = if makes (next_of c own h p) a then went_at (pushed_at c p) (leads c h p (response_at c own p a)) else went_on a
 
 -- CONDITIONS, on the section alone
 
@@ -277,6 +299,8 @@ IsSoundLocation (location.NumbersReturned r) = Unit {0}
 pub record IsSound (s : CreateSection) : Type 0 where
   pub priority : s.call.priority < 64
   pub own : IsThread s.own
+  pub version : s.own.version ≡ s.call.caller.version
+  pub running : runs s.own.state ≡ true
   pub located : IsSoundLocation s.location
 
 -- the thread that is pushed stands in no ready list
@@ -298,7 +322,7 @@ IsNotLost r = Unit {0}
 
 abbrev pub create_table : CreateCall → Table CreateAt
 create_table c = record {
-  first = Outside AcquireTable;
+  first = first_of c;
   ask = ask_of c;
   leads = leads c;
   hand = hand_after c;

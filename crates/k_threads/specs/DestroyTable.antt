@@ -36,8 +36,9 @@ use Rattle.k_locks.specs.Asks as plain
 use Rattle.k_locks.specs.Hands.{Hand, nothing, no_lists, no_queue, hand_with, pushed}
 use Rattle.k_locks.specs.Numbers.{ThreadNumbers, without_thread}
 use Rattle.k_locks.specs.Shown.{found_in, is_dead, is_present_in}
+use Rattle.k_locks.specs.Steps.{is_again, one_more}
 use Rattle.k_locks.specs.Tables.{Table}
-use Rattle.k_locks.specs.Threads.{IsThread}
+use Rattle.k_locks.specs.Threads.{IsThread, runs}
 use Rattle.k_threads.specs.declared.destroy.DestroyCall.{DestroyCall}
 use Rattle.k_threads.specs.declared.destroy.DestroyOutside.{DestroyOutside}
 use Rattle.k_threads.specs.declared.destroy.DestroyOutside.TheVariants.{LoadOwn, AcquireTable, Ended}
@@ -57,7 +58,7 @@ use Rattle.k_threads.specs.declared.destroy.DestroyLocation.{DestroyLocation}
 use Rattle.k_threads.specs.declared.destroy.DestroyLocation.TheVariants as location
 use Rattle.k_threads.specs.declared.destroy.DestroySection.{DestroySection}
 use Rattle.k_threads.specs.Goods.{all_three, no_lock, only_table, rest, table_and_ready, table_and_thread, unlinked, unlisted, without_first}
-use Rattle.k_threads.specs.Words.{dead_word, done_after, freed_word, is_receiving_from, thread_at}
+use Rattle.k_threads.specs.Words.{dead_word, freed_word, is_receiving_from, thread_at}
 use Rattle.k_threads.specs.Went.{makes, went_on}
 
 -- A location: what is held there, and which step comes.
@@ -208,13 +209,13 @@ freed id = record { who = id; act = act.Gone; outcome = outcome.Freed }
 -- The point of the history that a step makes, if any. `caller` is the caller's state word at this very step: at LoadOwn it is
 -- the word that the step loads. Elsewhere a destroy decides without a look at it: a word becomes dead at CommitKill alone, under
 -- the table lock, which the section holds.
-abbrev pub points : StateWord → DestroyCall → Hand → DestroyAt → Response → Option Point
-points caller c h (Outside LoadOwn) (plain.Word w) = if is_dead w then None else Some (point_of c outcome.Own)
-points caller c h (Victim LoadVictim) (plain.Word w) = if is_present_in w c.who then None else Some (point_of c (outcome.Absent (found_in c.who.number w)))
-points caller c h (Victim (CommitKill seen)) plain.Won = Some (point_of c outcome.Killed)
-points caller c h (Victim (FreeSender sender seen)) plain.Won = Some (freed (thread_at sender seen))
-points caller c h (Visit (FreeVisited visited seen)) plain.Won = Some (freed (thread_at visited seen))
-points caller c h p r = None
+abbrev pub points : DestroyCall → StateWord → Hand → DestroyAt → Response → Option Point
+points c caller h (Outside LoadOwn) (plain.Word w) = if is_dead w then None else Some (point_of c outcome.Own)
+points c caller h (Victim LoadVictim) (plain.Word w) = if is_present_in w c.who then None else Some (point_of c (outcome.Absent (found_in c.who.number w)))
+points c caller h (Victim (CommitKill seen)) plain.Won = Some (point_of c outcome.Killed)
+points c caller h (Victim (FreeSender sender seen)) plain.Won = Some (freed (thread_at sender seen))
+points c caller h (Visit (FreeVisited visited seen)) plain.Won = Some (freed (thread_at visited seen))
+points c caller h p r = None
 
 -- LOCKS
 
@@ -343,11 +344,11 @@ counted (Visit (FreeVisited visited seen)) = 1
 counted p = 0
 
 -- the number whose word was loaded
-abbrev pub seen_at : DestroyCall → DestroyAt → Option ℕ
-seen_at c (Victim (CommitKill seen)) = Some c.who.number
-seen_at c (Victim (FreeSender sender seen)) = Some sender
-seen_at c (Visit (FreeVisited visited seen)) = Some visited
-seen_at c p = None
+abbrev pub seen_of : DestroyCall → DestroyAt → Option ℕ
+seen_of c (Victim (CommitKill seen)) = Some c.who.number
+seen_of c (Victim (FreeSender sender seen)) = Some sender
+seen_of c (Visit (FreeVisited visited seen)) = Some visited
+seen_of c p = None
 
 -- THE SECTION, as a location with what is in hand
 
@@ -421,11 +422,11 @@ asked_location (location.Returned r) = location.Returned r
 abbrev pub destroy_of : DestroyCall → StateWord → DestroySection
 destroy_of c own = record { call = c; own = own; location = location_with nothing (first_of c); done = 0 }
 
-abbrev pub step_at : DestroyCall → StateWord → Hand → DestroyAt → Step
-step_at c own h p = step_for (ask_of c own p) (hand_after c h p plain.Released)
+abbrev pub next_of : DestroyCall → StateWord → Hand → DestroyAt → Step
+next_of c own h p = step_for (ask_of c own p) (hand_after c h p plain.Released)
 
 abbrev pub step_of : DestroySection → Step
-step_of s = step_at s.call s.own (hand_of s.location) (at_of s.location)
+step_of s = next_of s.call s.own (hand_of s.location) (at_of s.location)
 
 abbrev pub asked : DestroySection → DestroySection
 asked s = record s { location = asked_location s.location }
@@ -442,18 +443,35 @@ moved_location c own h p a =
 -- Where it stands after an answer: with one that doesn't make the step it stays where it is.
 abbrev pub resumed_location : DestroyCall → StateWord → DestroyLocation → Answer → DestroyLocation
 resumed_location c own l a =
-    if makes (step_at c own (hand_of l) (at_of l)) a then moved_location c own (hand_of l) (at_of l) a else l
+    if makes (next_of c own (hand_of l) (at_of l)) a then moved_location c own (hand_of l) (at_of l) a else l
 
+-- what an answer tells the section
+abbrev pub heard : DestroySection → Answer → Response
+heard s a = response_at s.call s.own (at_of s.location) a
+
+-- the section after an answer that makes the step
+abbrev pub moved : DestroySection → Answer → DestroySection
+moved s a = record s {
+  own = own_of s.call s.own (at_of s.location) (heard s a);
+  location = moved_location s.call s.own (hand_of s.location) (at_of s.location) a;
+  done = one_more s.done;
+}
+
+-- the section after an answer that the step can have
 abbrev pub resumed : DestroySection → Answer → DestroySection
-resumed s a = record s { location = resumed_location s.call s.own s.location a; done = done_after a s.done }
+resumed s a = if is_again a then s else moved s a
 
 -- how the section goes on
-abbrev pub told_at : Option ℕ → DestroyAt → Went
-told_at (Some priority) p = went.Pushed priority
-told_at None p = end_at p
+abbrev pub went_at : Option ℕ → DestroyAt → Went
+went_at (Some priority) p = went.Pushed priority
+went_at None p = end_at p
 
-abbrev pub went_of : DestroyCall → StateWord → Hand → DestroyAt → Answer → Went
-went_of c own h p a = if makes (step_at c own h p) a then told_at (pushed_at c p) (leads c h p (response_at c own p a)) else went_on a
+abbrev pub went_of : DestroyCall → Hand → DestroyAt → Response → Went
+went_of c h p r = if plain.is_again r then went.Again else went_at (pushed_at c p) (leads c h p r)
+
+-- the same by any answer
+abbrev pub resumed_went : DestroyCall → StateWord → Hand → DestroyAt → Answer → Went
+resumed_went c own h p a = if makes (next_of c own h p) a then went_at (pushed_at c p) (leads c h p (response_at c own p a)) else went_on a
 
 -- CONDITIONS, on the section alone
 
@@ -526,6 +544,8 @@ pub record IsSoundCall (c : DestroyCall) : Type 0 where
 pub record IsSound (s : DestroySection) : Type 0 where
   pub call : IsSoundCall s.call
   pub own : IsThread s.own
+  pub version : s.own.version ≡ s.call.caller.version
+  pub running : runs s.own.state ≡ true
   pub located : IsSoundLocation s.call s.location
 
 -- a thread that is pushed stands in no ready list
@@ -579,7 +599,7 @@ destroy_table c = record {
   stays = λ p. false;
   counted = counted;
   rest = rest_of c;
-  seen = seen_at c;
+  seen = seen_of c;
   Allows = IsShort c;
   Fits = Fits c;
 }

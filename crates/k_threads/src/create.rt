@@ -1,10 +1,12 @@
 // The section that creates a thread.
-ghost use Rattle.std.specs.Prelude.{◌≡◌, ◌<◌, true};
+ghost use Rattle.std.specs.Prelude.{◌≡◌, ◌<◌, false, true};
 ghost use Rattle.k_ids.specs.StateWords.{IsPartner, state_word_of};
 ghost use Rattle.k_locks.specs.Asks.{hand_asked};
 ghost use Rattle.k_locks.specs.Steps.{goes_on, suits};
 ghost use Rattle.k_locks.specs.Threads.{IsRunOf};
-ghost use Rattle.k_threads.specs.CreateTable.{CanPush, IsFit, IsSound, ask_of, asked, at_of, can_ask, create_of, hand_of, is_open, left_of, left_table, locks_of, resumed, step_of, went_of};
+ghost use Rattle.k_threads.specs.Went.{went_on};
+ghost use Rattle.k_threads.specs.Words.{done_after};
+ghost use Rattle.k_threads.specs.CreateTable.{CanPush, IsFit, IsSound, ask_of, asked, at_of, can_ask, create_of, hand_of, heard, is_open, left_of, left_table, locks_of, resumed, step_of, went_of};
 
 mod moves;
 mod points;
@@ -121,9 +123,12 @@ impl CreateSection {
     pub fn resume(&mut self, answer: Answer) -> Went
         requires sound { IsSound self.old }
         requires fit { IsFit (at_of self.old.location) answer }
-        ensures section { self.new ≡ resumed self.old answer }
-        ensures went { result ≡ went_of self.old.call self.old.own (hand_of self.old.location) (at_of self.old.location) answer }
+        ensures section { suits (step_of self.old) answer ≡ true → self.new ≡ resumed self.old answer }
+        ensures went { suits (step_of self.old) answer ≡ true → result ≡ went_of self.old.call (hand_of self.old.location) (at_of self.old.location) (heard self.old answer) }
+        ensures kept { suits (step_of self.old) answer ≡ false → self.new ≡ record self.old { done = done_after answer self.old.done } }
+        ensures told { suits (step_of self.old) answer ≡ false → result ≡ went_on answer }
         ensures sound { IsSound self.new }
+        ensures onward { suits (step_of self.old) answer ≡ true → is_open (at_of self.old.location) ≡ true → can_ask self.new.location ≡ goes_on result }
         ensures answered { suits (step_of self.old) answer ≡ true → can_ask self.new.location ≡ is_open (at_of self.new.location) }
         ensures open { is_open (at_of self.old.location) ≡ true → is_open (at_of self.new.location) ≡ goes_on result }
     {

@@ -41,15 +41,15 @@ pub fn left_is_the_most_that_a_destroy_makes()
 {}
 
 /// A create is where it stands and what it has in hand: that of the locks that it holds.
-pub fn a_create_is_a_location_and_a_hand()
+pub fn a_create_is_its_location()
     ensures at { (h : Hand) (p : CreateAt) → create.at_of (create.location_with h p) ≡ p }
     ensures hand { (c : CreateCall) (h : Hand) (p : CreateAt) → create.hand_of (create.location_with h p) ≡ trimmed (create.locks_of c p) h }
-    ensures both { (l : CreateLocation) → create.can_ask l ≡ true → create.location_with (create.hand_of l) (create.at_of l) ≡ l }
+    ensures back { (l : CreateLocation) → create.can_ask l ≡ true → create.location_with (create.hand_of l) (create.at_of l) ≡ l }
 {}
 
 /// The same of a destroy.
-pub fn a_destroy_is_a_location_and_a_hand()
+pub fn a_destroy_is_its_location()
     ensures at { (h : Hand) (p : DestroyAt) → destroy.at_of (destroy.location_with h p) ≡ p }
     ensures hand { (c : DestroyCall) (h : Hand) (p : DestroyAt) → destroy.hand_of (destroy.location_with h p) ≡ trimmed (destroy.locks_of c p) h }
-    ensures both { (l : DestroyLocation) → destroy.can_ask l ≡ true → destroy.location_with (destroy.hand_of l) (destroy.at_of l) ≡ l }
+    ensures back { (l : DestroyLocation) → destroy.can_ask l ≡ true → destroy.location_with (destroy.hand_of l) (destroy.at_of l) ≡ l }
 {}

@@ -38,7 +38,7 @@ mod words;
 pub use create::CreateSection;
 pub use destroy::DestroySection;
 pub use laws::{
-    a_create_is_a_location_and_a_hand, a_create_takes_locks_in_rising_rank,
-    a_destroy_is_a_location_and_a_hand, a_destroy_takes_locks_in_rising_rank,
-    left_is_the_most_that_a_create_makes, left_is_the_most_that_a_destroy_makes,
+    a_create_is_its_location, a_create_takes_locks_in_rising_rank, a_destroy_is_its_location,
+    a_destroy_takes_locks_in_rising_rank, left_is_the_most_that_a_create_makes,
+    left_is_the_most_that_a_destroy_makes,
 };

@@ -1,5 +1,5 @@
 // A create and a destroy, walked along their longest ways by answers made by hand: the step, the steps left up to the release of
-// the table lock, and how the section goes on.
+// the table lock, how the section goes on, and the event.
 ghost use Rattle.std.specs.Prelude.{true, ℕ, ◌≡◌, ◌≤◌};
 ghost use Rattle.k_ids.specs.StateWords.{IsPartner, IsStateSpelling, state_word_of};
 ghost use Rattle.k_locks.specs.declared.steps.Answer.TheVariants as answer;
@@ -13,8 +13,8 @@ ghost use Rattle.k_threads.specs.DestroyTable.{DestroyAt};
 mod creates;
 mod destroys;
 
-use k_ids::{Message, NoMemory, Result4, State, StateWord, ThreadId};
-use k_locks::{Answer, Goods, Lock, Numbers, Step, Told, Went, WordName};
+use k_ids::{Act, Message, NoMemory, Outcome, Result4, State, StateWord, ThreadId};
+use k_locks::{Answer, Goods, Lock, Numbers, Point, Step, Told, Went, WordName};
 use k_ready::ReadyLists;
 use k_senders::{SenderEntry, Senders};
 use std::alloc::Global;
@@ -44,9 +44,9 @@ enum Given {
 }
 
 /// A location as a table has it: its step, how many steps are left until the table lock is released, what the section is given,
-/// and how it goes on.
+/// how it goes on, and the event of the step.
 #[derive(Clone, Copy)]
-struct Row(Look, u32, Given, Went);
+struct Row(Look, u32, Given, Went, Option<Point>);
 
 fn shown(step: &Step) -> Look {
     match step {
@@ -159,12 +159,16 @@ fn is_empty(lists: &ReadyLists) -> bool
 }
 
 fn on(look: Look, left: u32, given: Given) -> Row {
-    Row(look, left, given, Went::On)
+    Row(look, left, given, Went::On, None)
+}
+
+/// An exchange that is won, with its event.
+fn won(look: Look, left: u32, who: ThreadId, act: Act, outcome: Outcome) -> Row {
+    let point = Point { who, act, outcome };
+    Row(look, left, Given::Told(Told::Won), Went::On, Some(point))
 }
 
 const RELEASED: Given = Given::Told(Told::Released);
-
-const WON: Given = Given::Told(Told::Won);
 
 const TABLE: Look = Look::Acquire(Lock::Table);
 

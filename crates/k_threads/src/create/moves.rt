@@ -5,7 +5,7 @@ ghost use Rattle.k_ids.specs.StateWords.{IsStateSpelling, state_word_of};
 ghost use Rattle.k_locks.specs.Hands.{Hand, no_lists, no_queue};
 ghost use Rattle.k_locks.specs.Numbers.{lowest_free};
 ghost use Rattle.k_locks.specs.Shown.{is_dead};
-ghost use Rattle.k_threads.specs.CreateTable.{IsFit, IsSoundLocation, IsSoundLocked, Locked, Outside, at_of, choose, hand_of, released_end, resumed_location, went_of};
+ghost use Rattle.k_threads.specs.CreateTable.{IsFit, IsSoundLocation, IsSoundLocked, Locked, Outside, at_of, choose, hand_of, released_end, resumed_location, resumed_went};
 
 use crate::create::{CreateCall, CreateLocation, CreateLocked, CreateOutside, CreateRelease};
 use crate::words::went_on;
@@ -18,7 +18,7 @@ impl CreateLocation {
         requires sound { IsSoundLocation self }
         requires fit { IsFit (at_of self) answer }
         ensures location { (own : StateWord) → result.1 ≡ resumed_location call own self answer }
-        ensures went { (own : StateWord) → result.0 ≡ went_of call own (hand_of self) (at_of self) answer }
+        ensures went { (own : StateWord) → result.0 ≡ resumed_went call own (hand_of self) (at_of self) answer }
         ensures sound { IsSoundLocation result.1 }
     {
         match answer {
@@ -30,7 +30,7 @@ impl CreateLocation {
     fn got(self, goods: Goods) -> CreateLocation
         requires sound { IsSoundLocation self }
         ensures location { (call : CreateCall) (own : StateWord) → result ≡ resumed_location call own self (Answer.Got goods) }
-        ensures went { (call : CreateCall) (own : StateWord) → went_of call own (hand_of self) (at_of self) (Answer.Got goods) ≡ Went.On }
+        ensures went { (call : CreateCall) (own : StateWord) → resumed_went call own (hand_of self) (at_of self) (Answer.Got goods) ≡ Went.On }
         ensures sound { IsSoundLocation result }
     {
         match (self, goods) {
@@ -49,7 +49,7 @@ impl CreateLocation {
         requires sound { IsSoundLocation self }
         requires fit { IsFit (at_of self) (Answer.Told told) }
         ensures location { (own : StateWord) → result.1 ≡ resumed_location call own self (Answer.Told told) }
-        ensures went { (own : StateWord) → result.0 ≡ went_of call own (hand_of self) (at_of self) (Answer.Told told) }
+        ensures went { (own : StateWord) → result.0 ≡ resumed_went call own (hand_of self) (at_of self) (Answer.Told told) }
         ensures sound { IsSoundLocation result.1 }
     {
         match self {
@@ -77,7 +77,7 @@ impl CreateLocation {
 // A section that is over stays so.
 fn outside_went(at: CreateOutside, told: Told) -> Went
     ensures location { (call : CreateCall) (own : StateWord) → resumed_location call own (CreateLocation.Outside at) (Answer.Told told) ≡ CreateLocation.Outside at }
-    ensures went { (call : CreateCall) (own : StateWord) (h : Hand) → result ≡ went_of call own h (Outside at) (Answer.Told told) }
+    ensures went { (call : CreateCall) (own : StateWord) (h : Hand) → result ≡ resumed_went call own h (Outside at) (Answer.Told told) }
 {
     match (at, told) {
         (CreateOutside::Ended(went), Told::Loaded(_)) => went,
@@ -89,7 +89,7 @@ fn locked_told(at: CreateLocked, numbers: Numbers, told: Told) -> (Went, CreateL
     requires sound { IsSoundLocked at numbers }
     requires fit { IsFit (Locked at) (Answer.Told told) }
     ensures location { (call : CreateCall) (own : StateWord) → result.1 ≡ resumed_location call own (CreateLocation.Locked at numbers) (Answer.Told told) }
-    ensures went { (call : CreateCall) (own : StateWord) → result.0 ≡ went_of call own (record { numbers = numbers; queue = no_queue; lists = no_lists }) (Locked at) (Answer.Told told) }
+    ensures went { (call : CreateCall) (own : StateWord) → result.0 ≡ resumed_went call own (record { numbers = numbers; queue = no_queue; lists = no_lists }) (Locked at) (Answer.Told told) }
     ensures sound { IsSoundLocation result.1 }
 {
     let at = match (at, told) {

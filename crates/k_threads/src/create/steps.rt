@@ -4,7 +4,7 @@ ghost use Rattle.k_ids.specs.declared.state_word.StateWord.{StateWord};
 ghost use Rattle.k_ready.specs.Lists.{IsInNone};
 ghost use Rattle.k_locks.specs.Hands.{Hand, no_lists, no_queue};
 ghost use Rattle.k_locks.specs.Numbers.{ThreadNumbers};
-ghost use Rattle.k_threads.specs.CreateTable.{CanPush, IsSoundLocation, IsSoundLocked, IsSoundRelease, Locked, Outside, PushCreated, asked_location, at_of, can_ask, hand_of, step_at};
+ghost use Rattle.k_threads.specs.CreateTable.{CanPush, IsSoundLocation, IsSoundLocked, IsSoundRelease, Locked, Outside, PushCreated, asked_location, at_of, can_ask, hand_of, next_of};
 
 use crate::create::{CreateCall, CreateLocation, CreateLocked, CreateOutside, CreateRelease};
 use crate::words::{created_bits, dead_bits};
@@ -19,7 +19,7 @@ impl CreateLocation {
         requires priority { call.priority < 64 }
         requires sound { IsSoundLocation self }
         requires room { CanPush call (hand_of self) (at_of self) }
-        ensures step { (own : StateWord) → result.0 ≡ step_at call own (hand_of self) (at_of self) }
+        ensures step { (own : StateWord) → result.0 ≡ next_of call own (hand_of self) (at_of self) }
         ensures left { result.1 ≡ asked_location self }
         ensures sound { IsSoundLocation result.1 }
     {
@@ -39,7 +39,7 @@ impl CreateLocation {
 }
 
 fn outside_step(call: CreateCall, at: CreateOutside) -> Step
-    ensures { (own : StateWord) (h : Hand) → result ≡ step_at call own h (Outside at) }
+    ensures { (own : StateWord) (h : Hand) → result ≡ next_of call own h (Outside at) }
 {
     match at {
         CreateOutside::AcquireTable => Step::Acquire(Lock::Table),
@@ -51,7 +51,7 @@ fn outside_step(call: CreateCall, at: CreateOutside) -> Step
 fn locked_step(call: CreateCall, at: CreateLocked, numbers: Numbers) -> (Step, CreateLocation)
     requires priority { call.priority < 64 }
     requires sound { IsSoundLocked at numbers }
-    ensures step { (own : StateWord) → result.0 ≡ step_at call own (record { numbers = numbers; queue = no_queue; lists = no_lists }) (Locked at) }
+    ensures step { (own : StateWord) → result.0 ≡ next_of call own (record { numbers = numbers; queue = no_queue; lists = no_lists }) (Locked at) }
     ensures left { result.1 ≡ asked_location (CreateLocation.Locked at numbers) }
     ensures sound { IsSoundLocation result.1 }
 {
@@ -78,7 +78,7 @@ fn locked_step(call: CreateCall, at: CreateLocked, numbers: Numbers) -> (Step, C
 // The release of the thread numbers, with the new thread's where one was made.
 fn release(end: CreateRelease, numbers: Numbers) -> Step
     requires { IsSoundRelease end numbers }
-    ensures { (call : CreateCall) (own : StateWord) → result ≡ step_at call own (record { numbers = numbers; queue = no_queue; lists = no_lists }) (Locked (CreateLocked.Release end)) }
+    ensures { (call : CreateCall) (own : StateWord) → result ≡ next_of call own (record { numbers = numbers; queue = no_queue; lists = no_lists }) (Locked (CreateLocked.Release end)) }
 {
     let numbers = match end {
         CreateRelease::Made(id) => numbers.with_thread(id.number),
@@ -95,7 +95,7 @@ fn pushing_step(call: CreateCall, id: ThreadId, lists: ReadyLists) -> Step
     requires priority { call.priority < 64 }
     requires number { id.number < 64 }
     requires room { IsInNone id.number lists.lists }
-    ensures { (own : StateWord) (numbers : ThreadNumbers) → result ≡ step_at call own (record { numbers = numbers; queue = no_queue; lists = lists }) (PushCreated id) }
+    ensures { (own : StateWord) (numbers : ThreadNumbers) → result ≡ next_of call own (record { numbers = numbers; queue = no_queue; lists = lists }) (PushCreated id) }
 {
     let mut lists = lists;
     lists.push(id.number, id.version, call.priority);

@@ -7,7 +7,7 @@ ghost use Rattle.k_senders.specs.Queue.{Queue};
 ghost use Rattle.k_locks.specs.declared.steps.Answer.TheVariants as answer;
 ghost use Rattle.k_locks.specs.Hands.{Hand, no_lists, no_queue};
 ghost use Rattle.k_locks.specs.Shown.{is_dead};
-ghost use Rattle.k_threads.specs.DestroyTable.{IsFit, IsSoundCall, IsSoundLocation, IsSoundLocked, IsSoundPushing, IsSoundReturned, IsSoundVictim, IsSoundVisit, IsWaiter, Locked, Outside, Pushing, UnlistVictim, Victim, Visit, after_victim, after_visited, alive_or_dead, at_of, free_first, hand_of, released_end, resumed_location, returned_at, returned_hand, visit_from, went_of};
+ghost use Rattle.k_threads.specs.DestroyTable.{IsFit, IsSoundCall, IsSoundLocation, IsSoundLocked, IsSoundPushing, IsSoundReturned, IsSoundVictim, IsSoundVisit, IsWaiter, Locked, Outside, Pushing, UnlistVictim, Victim, Visit, after_victim, after_visited, alive_or_dead, at_of, free_first, hand_of, released_end, resumed_location, returned_at, returned_hand, visit_from, resumed_went};
 ghost use Rattle.k_threads.specs.Goods.{without_first};
 
 use crate::destroy::{
@@ -28,7 +28,7 @@ impl DestroyLocation {
         requires sound { IsSoundLocation call self }
         requires fit { IsFit (at_of self) answer }
         ensures location { (own : StateWord) → result.1 ≡ resumed_location call own self answer }
-        ensures went { (own : StateWord) → result.0 ≡ went_of call own (hand_of self) (at_of self) answer }
+        ensures went { (own : StateWord) → result.0 ≡ resumed_went call own (hand_of self) (at_of self) answer }
         ensures sound { IsSoundLocation call result.1 }
     {
         match answer {
@@ -41,7 +41,7 @@ impl DestroyLocation {
     fn got(self, call: DestroyCall, goods: Goods) -> DestroyLocation
         requires sound { IsSoundLocation call self }
         ensures location { (own : StateWord) → result ≡ resumed_location call own self (answer.Got goods) }
-        ensures went { (own : StateWord) → went_of call own (hand_of self) (at_of self) (answer.Got goods) ≡ Went.On }
+        ensures went { (own : StateWord) → resumed_went call own (hand_of self) (at_of self) (answer.Got goods) ≡ Went.On }
         ensures sound { IsSoundLocation call result }
     {
         match (self, goods) {
@@ -86,7 +86,7 @@ impl DestroyLocation {
         requires sound { IsSoundLocation call self }
         requires fit { IsFit (at_of self) (answer.Told told) }
         ensures location { (own : StateWord) → result.1 ≡ resumed_location call own self (answer.Told told) }
-        ensures went { (own : StateWord) → result.0 ≡ went_of call own (hand_of self) (at_of self) (answer.Told told) }
+        ensures went { (own : StateWord) → result.0 ≡ resumed_went call own (hand_of self) (at_of self) (answer.Told told) }
         ensures sound { IsSoundLocation call result.1 }
     {
         match self {
@@ -110,7 +110,7 @@ impl DestroyLocation {
 // The queue of the victim, or of the visited number.
 fn got_queue(at: DestroyLocked, numbers: Numbers, queue: Senders) -> DestroyLocation
     ensures location { (call : DestroyCall) (own : StateWord) → result ≡ resumed_location call own (DestroyLocation.Locked at numbers) (answer.Got (Goods.Senders queue)) }
-    ensures went { (call : DestroyCall) (own : StateWord) (h : Hand) → went_of call own h (Locked at) (answer.Got (Goods.Senders queue)) ≡ Went.On }
+    ensures went { (call : DestroyCall) (own : StateWord) (h : Hand) → resumed_went call own h (Locked at) (answer.Got (Goods.Senders queue)) ≡ Went.On }
     ensures sound { (call : DestroyCall) → IsSoundLocked call at → IsSoundLocation call result }
 {
     match at {
@@ -129,7 +129,7 @@ fn got_queue(at: DestroyLocked, numbers: Numbers, queue: Senders) -> DestroyLoca
 fn outside_told(at: DestroyOutside, told: Told) -> (Went, DestroyLocation)
     requires { IsFit (Outside at) (answer.Told told) }
     ensures location { (call : DestroyCall) (own : StateWord) → result.1 ≡ resumed_location call own (DestroyLocation.Outside at) (answer.Told told) }
-    ensures went { (call : DestroyCall) (own : StateWord) (h : Hand) → result.0 ≡ went_of call own h (Outside at) (answer.Told told) }
+    ensures went { (call : DestroyCall) (own : StateWord) (h : Hand) → result.0 ≡ resumed_went call own h (Outside at) (answer.Told told) }
     ensures sound { (call : DestroyCall) → IsSoundLocation call result.1 }
 {
     let went = match (at, told) {
@@ -161,7 +161,7 @@ fn locked_told(
     requires sound { IsSoundLocked call at }
     requires fit { IsFit (Locked at) (answer.Told told) }
     ensures location { (own : StateWord) → result.1 ≡ resumed_location call own (DestroyLocation.Locked at numbers) (answer.Told told) }
-    ensures went { (own : StateWord) (h : Hand) → result.0 ≡ went_of call own h (Locked at) (answer.Told told) }
+    ensures went { (own : StateWord) (h : Hand) → result.0 ≡ resumed_went call own h (Locked at) (answer.Told told) }
     ensures sound { IsSoundLocation call result.1 }
 {
     let at = match (at, told) {
@@ -227,7 +227,7 @@ fn victim_told(
     requires sound { IsSoundVictim at queue }
     requires fit { IsFit (Victim at) (answer.Told told) }
     ensures location { (own : StateWord) → result.1 ≡ resumed_location call own (DestroyLocation.Victim at numbers queue) (answer.Told told) }
-    ensures went { (own : StateWord) (h : Hand) → result.0 ≡ went_of call own h (Victim at) (answer.Told told) }
+    ensures went { (own : StateWord) (h : Hand) → result.0 ≡ resumed_went call own h (Victim at) (answer.Told told) }
     ensures sound { IsSoundLocation call result.1 }
 {
     let at = match (at, told) {
@@ -275,7 +275,7 @@ fn freeing_told(
 ) -> (Went, DestroyLocation)
     requires { IsWaiter 64 sender seen }
     ensures location { (call : DestroyCall) (own : StateWord) → result.1 ≡ resumed_location call own (DestroyLocation.Victim (DestroyVictim.FreeSender sender seen) numbers queue) (answer.Told told) }
-    ensures went { (call : DestroyCall) (own : StateWord) (h : Hand) → result.0 ≡ went_of call own h (Victim (DestroyVictim.FreeSender sender seen)) (answer.Told told) }
+    ensures went { (call : DestroyCall) (own : StateWord) (h : Hand) → result.0 ≡ resumed_went call own h (Victim (DestroyVictim.FreeSender sender seen)) (answer.Told told) }
     ensures sound { (call : DestroyCall) → IsSoundLocation call result.1 }
 {
     match told {
@@ -332,7 +332,7 @@ fn visit_told(
     requires sound { IsSoundVisit call at }
     requires fit { IsFit (Visit at) (answer.Told told) }
     ensures location { (own : StateWord) → result.1 ≡ resumed_location call own (DestroyLocation.Visit at numbers queue) (answer.Told told) }
-    ensures went { (own : StateWord) (h : Hand) → result.0 ≡ went_of call own h (Visit at) (answer.Told told) }
+    ensures went { (own : StateWord) (h : Hand) → result.0 ≡ resumed_went call own h (Visit at) (answer.Told told) }
     ensures sound { IsSoundLocation call result.1 }
 {
     let at = match (at, told) {
@@ -372,7 +372,7 @@ fn after_visited(call: DestroyCall, visited: u8, word: StateWord) -> DestroyVisi
 
 fn unlist_told(numbers: Numbers, lists: ReadyLists, told: Told) -> (Went, DestroyLocation)
     ensures location { (call : DestroyCall) (own : StateWord) → result.1 ≡ resumed_location call own (DestroyLocation.UnlistVictim numbers lists) (answer.Told told) }
-    ensures went { (call : DestroyCall) (own : StateWord) (h : Hand) → result.0 ≡ went_of call own h UnlistVictim (answer.Told told) }
+    ensures went { (call : DestroyCall) (own : StateWord) (h : Hand) → result.0 ≡ resumed_went call own h UnlistVictim (answer.Told told) }
     ensures sound { (call : DestroyCall) → IsSoundLocation call result.1 }
 {
     match told {
@@ -394,7 +394,7 @@ fn pushing_told(
     told: Told,
 ) -> (Went, DestroyLocation)
     ensures location { (call : DestroyCall) (own : StateWord) → result.1 ≡ resumed_location call own (DestroyLocation.Pushing at numbers queue lists) (answer.Told told) }
-    ensures went { (call : DestroyCall) (own : StateWord) (h : Hand) → result.0 ≡ went_of call own h (Pushing at) (answer.Told told) }
+    ensures went { (call : DestroyCall) (own : StateWord) (h : Hand) → result.0 ≡ resumed_went call own h (Pushing at) (answer.Told told) }
     ensures sound { (call : DestroyCall) → IsSoundPushing call at → IsSoundLocation call result.1 }
 {
     match told {
@@ -412,7 +412,7 @@ fn pushing_told(
 fn pushed(at: DestroyPushing, numbers: Numbers, queue: Senders) -> (Went, DestroyLocation)
     ensures location { (call : DestroyCall) (own : StateWord) (lists : Ready) → result.1 ≡ resumed_location call own (DestroyLocation.Pushing at numbers queue lists) (answer.Told Told.Released) }
     ensures returned { (call : DestroyCall) (own : StateWord) → result.1 ≡ resumed_location call own (DestroyLocation.Returned (DestroyReturned.Pushed at numbers queue)) (answer.Told Told.Released) }
-    ensures went { (call : DestroyCall) (own : StateWord) (h : Hand) → result.0 ≡ went_of call own h (Pushing at) (answer.Told Told.Released) }
+    ensures went { (call : DestroyCall) (own : StateWord) (h : Hand) → result.0 ≡ resumed_went call own h (Pushing at) (answer.Told Told.Released) }
     ensures sound { (call : DestroyCall) → IsSoundPushing call at → IsSoundLocation call result.1 }
 {
     match at {
@@ -442,7 +442,7 @@ fn returned_told(call: DestroyCall, left: DestroyReturned, told: Told) -> (Went,
     requires call { IsSoundCall call }
     requires sound { IsSoundReturned call left }
     ensures location { (own : StateWord) → result.1 ≡ resumed_location call own (DestroyLocation.Returned left) (answer.Told told) }
-    ensures went { (own : StateWord) → result.0 ≡ went_of call own (returned_hand left) (returned_at left) (answer.Told told) }
+    ensures went { (own : StateWord) → result.0 ≡ resumed_went call own (returned_hand left) (returned_at left) (answer.Told told) }
     ensures sound { IsSoundLocation call result.1 }
 {
     match told {
@@ -455,7 +455,7 @@ fn released(call: DestroyCall, left: DestroyReturned) -> (Went, DestroyLocation)
     requires call { IsSoundCall call }
     requires sound { IsSoundReturned call left }
     ensures location { (own : StateWord) → result.1 ≡ resumed_location call own (DestroyLocation.Returned left) (answer.Told Told.Released) }
-    ensures went { (own : StateWord) → result.0 ≡ went_of call own (returned_hand left) (returned_at left) (answer.Told Told.Released) }
+    ensures went { (own : StateWord) → result.0 ≡ resumed_went call own (returned_hand left) (returned_at left) (answer.Told Told.Released) }
     ensures sound { IsSoundLocation call result.1 }
 {
     let (at, numbers) = match left {

@@ -1,6 +1,6 @@
 // The linearization points of a destroy.
 ghost use Rattle.std.specs.Prelude.{◌≡◌};
-ghost use Rattle.k_threads.specs.DestroyTable.{IsFit, at_of, freed, hand_of, point_of, points, response_at};
+ghost use Rattle.k_threads.specs.DestroyTable.{IsFit, at_of, freed, hand_of, heard, point_of, points};
 ghost use Rattle.k_threads.specs.Words.{thread_at};
 
 use crate::destroy::{
@@ -13,7 +13,7 @@ impl DestroySection {
     /// The event that the step appends to the history, if any. `caller` is the caller's state word at this very step.
     pub fn point(&self, caller: &StateWord, answer: &Answer) -> Option<Point>
         requires { IsFit (at_of self.now.location) answer.now }
-        ensures { result ≡ points caller.now self.now.call (hand_of self.now.location) (at_of self.now.location) (response_at self.now.call self.now.own (at_of self.now.location) answer.now) }
+        ensures { result ≡ points self.now.call caller.now (hand_of self.now.location) (at_of self.now.location) (heard self.now answer.now) }
     {
         match (&self.location, answer) {
             (DestroyLocation::Outside(DestroyOutside::LoadOwn), Answer::Told(Told::Loaded(bits))) =>

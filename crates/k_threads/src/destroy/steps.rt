@@ -5,7 +5,7 @@ ghost use Rattle.k_ids.specs.StateWords.{state_bits};
 ghost use Rattle.k_ready.specs.Lists.{IsInNone};
 ghost use Rattle.k_locks.specs.Hands.{Hand, no_lists, no_queue, pushed};
 ghost use Rattle.k_locks.specs.Threads.{IsThread};
-ghost use Rattle.k_threads.specs.DestroyTable.{CanPush, IsSoundCall, IsSoundLocation, IsSoundLocked, IsSoundVictim, IsSoundVisit, Locked, Outside, Victim, Visit, asked_location, asked_locked, asked_victim, asked_visit, at_of, can_ask, hand_of, step_at};
+ghost use Rattle.k_threads.specs.DestroyTable.{CanPush, IsSoundCall, IsSoundLocation, IsSoundLocked, IsSoundVictim, IsSoundVisit, Locked, Outside, Victim, Visit, asked_location, asked_locked, asked_victim, asked_visit, at_of, can_ask, hand_of, next_of};
 ghost use Rattle.k_threads.specs.Words.{freed_word, thread_at};
 
 use crate::destroy::{
@@ -26,7 +26,7 @@ impl DestroyLocation {
         requires call { IsSoundCall call }
         requires sound { IsSoundLocation call self }
         requires room { CanPush call (hand_of self) (at_of self) }
-        ensures step { (own : StateWord) → result.0 ≡ step_at call own (hand_of self) (at_of self) }
+        ensures step { (own : StateWord) → result.0 ≡ next_of call own (hand_of self) (at_of self) }
         ensures left { result.1 ≡ asked_location self }
         ensures sound { IsSoundLocation call result.1 }
     {
@@ -56,7 +56,7 @@ impl DestroyLocation {
 }
 
 fn outside_step(call: DestroyCall, at: DestroyOutside) -> Step
-    ensures { (own : StateWord) (h : Hand) → result ≡ step_at call own h (Outside at) }
+    ensures { (own : StateWord) (h : Hand) → result ≡ next_of call own h (Outside at) }
 {
     match at {
         DestroyOutside::AcquireTable => Step::Acquire(Lock::Table),
@@ -70,7 +70,7 @@ fn outside_step(call: DestroyCall, at: DestroyOutside) -> Step
 fn locked_step(call: DestroyCall, at: DestroyLocked, numbers: Numbers) -> (Step, DestroyLocation)
     requires call { IsSoundCall call }
     requires sound { IsSoundLocked call at }
-    ensures step { (own : StateWord) → result.0 ≡ step_at call own (record { numbers = numbers; queue = no_queue; lists = no_lists }) (Locked at) }
+    ensures step { (own : StateWord) → result.0 ≡ next_of call own (record { numbers = numbers; queue = no_queue; lists = no_lists }) (Locked at) }
     ensures left { result.1 ≡ asked_locked at numbers }
     ensures sound { IsSoundLocation call result.1 }
 {
@@ -91,7 +91,7 @@ fn locked_step(call: DestroyCall, at: DestroyLocked, numbers: Numbers) -> (Step,
 // The release of the thread numbers, without the victim's where it was killed.
 fn release(call: DestroyCall, end: DestroyRelease, numbers: Numbers) -> Step
     requires { IsSoundCall call }
-    ensures { (own : StateWord) → result ≡ step_at call own (record { numbers = numbers; queue = no_queue; lists = no_lists }) (Locked (DestroyLocked.Release end)) }
+    ensures { (own : StateWord) → result ≡ next_of call own (record { numbers = numbers; queue = no_queue; lists = no_lists }) (Locked (DestroyLocked.Release end)) }
 {
     let numbers = match end {
         DestroyRelease::Killed => numbers.without_thread(call.who.number),
@@ -112,7 +112,7 @@ fn victim_step(
 ) -> (Step, DestroyLocation)
     requires call { IsSoundCall call }
     requires sound { IsSoundVictim at queue }
-    ensures step { (own : StateWord) → result.0 ≡ step_at call own (record { numbers = numbers; queue = queue; lists = no_lists }) (Victim at) }
+    ensures step { (own : StateWord) → result.0 ≡ next_of call own (record { numbers = numbers; queue = queue; lists = no_lists }) (Victim at) }
     ensures left { result.1 ≡ asked_victim at numbers queue }
     ensures sound { IsSoundLocation call result.1 }
 {
@@ -148,7 +148,7 @@ fn visit_step(
     queue: Senders,
 ) -> (Step, DestroyLocation)
     requires sound { IsSoundVisit call at }
-    ensures step { (own : StateWord) → result.0 ≡ step_at call own (record { numbers = numbers; queue = queue; lists = no_lists }) (Visit at) }
+    ensures step { (own : StateWord) → result.0 ≡ next_of call own (record { numbers = numbers; queue = queue; lists = no_lists }) (Visit at) }
     ensures left { result.1 ≡ asked_visit at numbers queue }
     ensures sound { IsSoundLocation call result.1 }
 {

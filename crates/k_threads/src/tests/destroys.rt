@@ -3,11 +3,11 @@ ghost use Rattle.std.specs.Prelude.{OnOk, true, ◌≡◌};
 ghost use Rattle.k_threads.specs.DestroyTable.{CanPush, IsSound, at_of, can_ask, hand_of};
 
 use super::{
-    Given, Look, READY, RELEASED, Row, TABLE, WON, answered, id, is_empty, is_fit, on, own,
-    running, shown, spelled,
+    Given, Look, READY, RELEASED, Row, TABLE, answered, id, is_empty, is_fit, on, own, running,
+    shown, spelled, won,
 };
 use crate::destroy::{DestroyLocation, DestroyOutside, DestroySection};
-use k_ids::{NoMemory, Reply, Result4, State, StateWord};
+use k_ids::{Act, NoMemory, Outcome, Phase, Reply, Result4, State, StateWord};
 use k_locks::{Answer, Lock, Told, Went};
 use std::alloc::Global;
 use std::process::Abort;
@@ -43,6 +43,7 @@ fn step(rt: &impl Abort, section: &mut DestroySection, row: Row, answer: Answer)
     let step = section.next();
     assert_eq!(rt; shown(&step), row.0);
     assert!(rt; is_fit(&answer));
+    assert_eq!(rt; section.point(&section.own(), &answer), row.4);
     assert_eq!(rt; section.resume(answer), row.3);
 }
 
@@ -85,6 +86,7 @@ fn kill_rows() -> [Row; 7] {
     let runs = running(Result4::Plain);
     let dead = StateWord::dead(1).bits();
     let kill = Look::Exchange(1, runs, dead);
+    let phase = Phase::Destroy { who: id(1, 1) };
     let lost = Given::Told(Told::Lost { found: runs });
     [
         on(TABLE, 0, Given::Numbers),
@@ -93,7 +95,7 @@ fn kill_rows() -> [Row; 7] {
         on(Look::Load(1), 29, loaded(runs)),
         on(kill, 30, lost),
         on(Look::Load(1), 29, loaded(runs)),
-        on(kill, 30, WON),
+        won(kill, 30, id(3, 1), Act::Call { phase }, Outcome::Killed),
     ]
 }
 
@@ -109,9 +111,15 @@ fn free_rows() -> [Row; 8] {
     let gone = running(Result4::Gone);
     [
         on(Look::Load(0), 27, loaded(sends)),
-        on(Look::Exchange(0, sends, gone), 28, WON),
+        won(
+            Look::Exchange(0, sends, gone),
+            28,
+            id(0, 1),
+            Act::Gone,
+            Outcome::Freed,
+        ),
         on(READY, 25, Given::Lists),
-        Row(READY_BACK, 24, RELEASED, PUSHED),
+        Row(READY_BACK, 24, RELEASED, PUSHED, None),
         on(thread_back(1), 23, RELEASED),
         on(READY, 22, Given::Lists),
         on(READY_BACK, 21, RELEASED),
@@ -135,9 +143,15 @@ fn visit_rows() -> [Row; 13] {
         on(thread_back(0), 14, RELEASED),
         on(thread(2), 13, NOBODY),
         on(Look::Load(2), 12, loaded(receives)),
-        on(Look::Exchange(2, receives, gone), 13, WON),
+        won(
+            Look::Exchange(2, receives, gone),
+            13,
+            id(2, 1),
+            Act::Gone,
+            Outcome::Freed,
+        ),
         on(READY, 10, Given::Lists),
-        Row(READY_BACK, 9, RELEASED, PUSHED),
+        Row(READY_BACK, 9, RELEASED, PUSHED, None),
         on(thread_back(2), 8, RELEASED),
         on(thread(3), 7, NOBODY),
         on(Look::Load(3), 6, loaded(runs)),
@@ -147,6 +161,7 @@ fn visit_rows() -> [Row; 13] {
             1,
             RELEASED,
             Went::Ends(Reply::Killed),
+            None,
         ),
     ]
 }
@@ -159,5 +174,6 @@ fn a_destroy_frees_all_who_wait_for_its_victim(rt: HostRuntime) -> Result<(), No
     walk(&rt, rt.alloc(), &mut section, visit_rows().as_slice())?;
     assert_eq!(rt; section.done(), 28);
     assert!(rt; !can_ask(&section));
+    assert_eq!(rt; section.holds(), [None, None, None]);
     Ok(())
 }

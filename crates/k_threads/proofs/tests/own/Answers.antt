@@ -1,4 +1,4 @@
-use Rattle.std.proofs.Common.{◌≡◌, ℕ, ap, subst, sym}
+use Rattle.std.proofs.Common.{ℕ, ap, subst, sym}
 use Rattle.k_ids.specs.declared.state_word.StateWord.{StateWord}
 use Rattle.k_locks.specs.Threads.{IsRunOf}
 use Rattle.k_threads.proofs.Tested.{own_word}

@@ -1,5 +1,5 @@
 use Rattle.k_threads.proofs.CreateLaws.{at_with, hand_kept, with_both}
-use Rattle.k_threads.proofs.laws.a_create_is_a_location_and_a_hand.Goals as goal
+use Rattle.k_threads.proofs.laws.a_create_is_its_location.Goals as goal
 
 pub returns-clause-at : goal.returns-clause-at
 returns-clause-at c = at_with
@@ -7,5 +7,5 @@ returns-clause-at c = at_with
 pub returns-clause-hand : goal.returns-clause-hand
 returns-clause-hand c = hand_kept
 
-pub returns-clause-both : goal.returns-clause-both
-returns-clause-both c = with_both
+pub returns-clause-back : goal.returns-clause-back
+returns-clause-back c = with_both

@@ -7,8 +7,8 @@ use Rattle.k_ids.specs.StateWords.{IsStateWord, state_bits, state_word_of}
 use Rattle.k_ids.proofs.StateSpelled.{state-read, state-whole}
 use Rattle.k_locks.specs.Threads.{IsRunOf, runs}
 use Rattle.k_ipc.specs.Words.{IsPickingOf}
-use Rattle.k_alone.specs.Memory.{Memory}
-use Rattle.k_alone.specs.Sound.{IsCaller, IsPicker, IsSoundMemory}
+use Rattle.k_shown.specs.Memory.{Memory}
+use Rattle.k_shown.specs.Sound.{IsCaller, IsPicker, IsSoundMemory}
 
 own_sound : (m : Memory) (me : ThreadId) (own : StateWord) → IsSoundMemory m → m.word me.number ≡ own → IsStateWord own
 own_sound m me own good is = subst IsStateWord is (good.words.words me.number)

@@ -16,24 +16,27 @@ use Rattle.k_locks.specs.Numbers.{lowest_free, version_at, alive as alive_number
 use Rattle.k_locks.specs.Shown.{shows}
 use Rattle.k_threads.specs.declared.create.CreateCall.{CreateCall}
 use Rattle.k_threads.specs.Words.{created_word, dead_word}
-use Rattle.k_threads.specs.Create.{created}
+use Rattle.k_threads.specs.CreateTable.{create_of}
 use Rattle.k_model.specs.Maps.{lowest}
-use Rattle.k_model.specs.State.{KernelState, answered, id_of, is_dead}
-use Rattle.k_model.specs.Step.{acted, made, called, create, is_free, renewed, last_version}
+use Rattle.k_model.specs.State.{KernelState, answered, is_dead}
+use Rattle.k_model.specs.Step.{called, is_free, renewed, last_version}
 use Rattle.k_model.proofs.Maps.{upd_same, upd_other, lowest-Some}
-use Rattle.k_alone.specs.Leaves.{state_told}
-use Rattle.k_alone.specs.Memory.{Memory, Shows}
-use Rattle.k_alone.specs.Sound.{IsCaller, IsSoundMemory}
-use Rattle.k_alone.specs.Alone.{Makes, begun, call_of, current}
-use Rattle.k_alone.specs.CreateAlone.{create_table, create_begun}
-use Rattle.k_alone.proofs.Shown.{shows_called, shows_answered}
-use Rattle.k_alone.proofs.Kept.{numbered_words, off_nowhere}
-use Rattle.k_alone.proofs.States.{may_call}
-use Rattle.k_alone.proofs.Left.{leaves_all}
+use Rattle.k_shown.specs.Leaves.{state_told}
+use Rattle.k_shown.specs.Memory.{Memory, Shows}
+use Rattle.k_shown.specs.Sound.{IsCaller, IsSoundMemory}
+use Rattle.k_alone.specs.Alone.{Makes, begun, current}
+use Rattle.k_shown.specs.Rows.{call_of, told}
+use Rattle.k_shown.proofs.Alike.{caller_in, alike_from}
+use Rattle.k_shown.proofs.Numbers.{lowest_is}
+use Rattle.k_shown.proofs.TableRows.{full_row, made_row}
+use Rattle.k_alone.specs.CreateAlone.{create_kind}
+use Rattle.k_shown.proofs.Shown.{shows_called}
+use Rattle.k_shown.proofs.Kept.{numbered_words, off_nowhere}
+use Rattle.k_shown.proofs.Left.{leaves_all}
 use Rattle.k_alone.proofs.CreateLeft.{made_left}
 use Rattle.k_alone.proofs.Made.{makes, makes_one, replay_on, reply_first}
-use Rattle.k_alone.proofs.Creates.{dead_off, lowest_is, alive_is, worn_is, create_makes, create_full, shows_making, pushed_made, numbers_made, contexts_made}
-use Rattle.k_alone.proofs.CreateRuns.{made_memory, new_id, runs_full, runs_made, dead_word_is}
+use Rattle.k_alone.proofs.Creates.{dead_off, pushed_made, numbers_made, contexts_made}
+use Rattle.k_alone.proofs.CreateRuns.{created, made_memory, new_id, runs_full, runs_made, dead_word_is}
 
 module _ (c : CreateCall) (m : Memory) (k : KernelState) (own : StateWord) (h : Shows m k) (good : IsSoundMemory m) (call : IsCaller m c.caller own) (small : c.priority < 64) where
   serial_is : current k c.caller c.caller.number ≡ (k.place c.caller.number).serial + 1
@@ -45,28 +48,21 @@ module _ (c : CreateCall) (m : Memory) (k : KernelState) (own : StateWord) (h : 
   caller_runs : (k.place c.caller.number).status ≡ status.Run
   caller_runs = h.status c.caller.number ∙ ap (λ (w : StateWord). shows w.state) call.word ∙ ap shows call.runs
 
-  full_law : lowest_free m.numbers ≡ None → Makes (create_table c (current k c.caller)) (begun m create_begun) k (call_of k c.caller (phase.Create c.program c.priority))
-  unfolding acted made
+  full_law : lowest_free m.numbers ≡ None → Makes (create_kind (current k c.caller)) (begun m (create_of c own)) k (call_of k c.caller (phase.Create c.program c.priority))
   full_law none =
       let me = c.caller in
       let s = (k.place me.number).serial + 1 in
-      let k1 = called k me s in
-      let h1 = shows_called m k me s h in
       let a = alive_numbers m.numbers in
       let w = worn_numbers m.numbers in
-      let no : lowest (λ n. is_free (k1.place n)) k1.size ≡ None = sym (lowest_is m k1 h1 good.numbers) ∙ none in
-      let row = create_full k1 me s no in
-      let row' : create k1 me s ≡ (answered k1 me s (reply.Full a w), outcome.Full a w) = rw (alive_is m k1 h1 good.numbers, worn_is m k1 h1 good.numbers) row in
       let e = entry_is (outcome.Full a w) in
-      makes_one (create_table c (current k me)) (begun m create_begun) _ k (answered k1 me s (reply.Full a w)) (call_of k me (phase.Create c.program c.priority)) (outcome.Full a w) (record { id = me; serial = s; reply = reply.Full a w } ∷ [])
-      h good (may_call m k h me own (phase.Create c.program c.priority) call) row' (runs_full c (current k me) m own good call none) (ap (λ (x : Entry). x ∷ []) e)
+      makes_one (create_kind (current k me)) (begun m (create_of c own)) _ k _ (call_of k me (phase.Create c.program c.priority)) (outcome.Full a w) (told me s (reply.Full a w) ∷ [])
+      h good (full_row m m k me h (caller_in m me own call) c.program c.priority good.numbers none (alike_from m m refl (λ n. refl) (λ n. refl))) (runs_full c (current k me) m own good call none) (ap (λ (x : Entry). x ∷ []) e)
       (record { size = refl; version = λ n. refl; dead = λ n. refl; context = refl; numbers = refl; room = λ n. refl })
-      (shows_answered m k1 me s (reply.Full a w) h1) good.words refl
+      good.words
       (reply_first me s (reply.Full a w) [], ap (λ p. p.status) (upd_same k.place me.number (record (k.place me.number) { serial = s })) ∙ caller_runs)
       (leaves_all (call_of k me (phase.Create c.program c.priority)) (outcome.Full a w) (record { id = me; serial = s; reply = reply.Full a w } ∷ []) m good.words.ready (refl, tt) refl (ap (λ (x : Option Reply). state_told x (m.word me.number).state) (reply_first me s (reply.Full a w) [])))
 
-  made_law : (n : ℕ) → lowest_free m.numbers ≡ Some n → Makes (create_table c (current k c.caller)) (begun m create_begun) k (call_of k c.caller (phase.Create c.program c.priority))
-  unfolding acted made
+  made_law : (n : ℕ) → lowest_free m.numbers ≡ Some n → Makes (create_kind (current k c.caller)) (begun m (create_of c own)) k (call_of k c.caller (phase.Create c.program c.priority))
   made_law n some =
       let me = c.caller in
       let s = (k.place me.number).serial + 1 in
@@ -89,32 +85,31 @@ module _ (c : CreateCall) (m : Memory) (k : KernelState) (own : StateWord) (h : 
       let push = off_nowhere m n good.words.ready off in
       let e = entry_is (outcome.Made id) in
       let k2 = renewed k1 n in
-      let made_id : id_of k2 n ≡ id = λ d. record { number = n; version = (ap (λ p. p.version) (upd_same k1.place n (record (k1.place n) { version = (k1.place n).version + 1; status = status.Run; joined = false; serial = 0 })) ∙ ap (λ (x : ℕ). x + 1) (v ∙ sym at_n)) d } in
-      let row : create k1 me s ≡ (answered k2 me s (reply.Made id), outcome.Made id) = rw (← made_id) (create_makes k1 me s n yes) in
       let mf = made_memory m id c.priority in
+      let row = made_row m mf k me h (caller_in m me own call) c.program c.priority n good.numbers some id refl (created_word id.version c.priority) (record { version = refl; status = refl; joined = refl }) (alike_from _ mf refl (λ n. refl) (λ n. refl)) in
       let ne : me.number ≢ n = λ q. false≢true (sym (ap is_dead caller_runs) ∙ ap (λ (j : ℕ). is_dead (k.place j).status) q ∙ ap is_dead (h.status n) ∙ dead) in
-      makes (create_table c (current k me)) (begun m create_begun) _ k (answered k2 me s (reply.Made id)) (call_of k me (phase.Create c.program c.priority)) (outcome.Made id) [] (record { id = me; serial = s; reply = reply.Made id } ∷ [])
+      makes (create_kind (current k me)) (begun m (create_of c own)) _ k (answered k2 me s (reply.Made id)) (call_of k me (phase.Create c.program c.priority)) (outcome.Made id) [] (record { id = me; serial = s; reply = reply.Made id } ∷ [])
       (runs_made c (current k me) m own good call n some is new (good.contexts.none n dead) fresh push)
       (record {
         shown = h;
         good = good;
         frees = tt;
         entries = ap (λ (x : Entry). x ∷ []) e;
-        legal = replay_on k (answered k2 me s (reply.Made id)) (answered k2 me s (reply.Made id)) (call_of k me (phase.Create c.program c.priority)) (outcome.Made id) [] (may_call m k h me own (phase.Create c.program c.priority) call) row refl;
-        shows = shows_answered mf k2 me s (reply.Made id) (let q = shows_making m id c.priority dead next young small k1 h1 in record { size = q.size; version = q.version; status = q.status; joined = q.joined; waiting = q.waiting });
+        legal = replay_on k (answered k2 me s (reply.Made id)) (answered k2 me s (reply.Made id)) (call_of k me (phase.Create c.program c.priority)) (outcome.Made id) [] row.enabled row.makes refl;
+        shows = row.shows;
         size = refl;
         room = λ n. refl;
         words = numbered_words _ _ (pushed_made m id c.priority dead next young small good.words);
-        numbers = numbers_made m id c.priority dead next young small mf refl refl refl inside good.small good.numbers;
+        numbers = numbers_made m id c.priority dead next young small mf refl refl refl inside good.numbers;
         contexts = contexts_made m id c.priority dead next young small mf refl refl good.contexts;
         replies = refl;
         leaves = made_left m me id s c.program c.priority good dead ne off small;
         tells = (reply_first me s (reply.Made id) [], ap (λ p. p.status) (upd_other k1.place n (record (k1.place n) { version = (k1.place n).version + 1; status = status.Run; joined = false; serial = 0 }) me.number ne) ∙ ap (λ p. p.status) (upd_same k.place me.number (record (k.place me.number) { serial = s })) ∙ caller_runs);
       })
 
-  pub create_law : Makes (create_table c (current k c.caller)) (begun m create_begun) k (call_of k c.caller (phase.Create c.program c.priority))
+  pub create_law : Makes (create_kind (current k c.caller)) (begun m (create_of c own)) k (call_of k c.caller (phase.Create c.program c.priority))
   create_law = go (lowest_free m.numbers) refl
     where
-      go : (o : Option ℕ) → lowest_free m.numbers ≡ o → Makes (create_table c (current k c.caller)) (begun m create_begun) k (call_of k c.caller (phase.Create c.program c.priority))
+      go : (o : Option ℕ) → lowest_free m.numbers ≡ o → Makes (create_kind (current k c.caller)) (begun m (create_of c own)) k (call_of k c.caller (phase.Create c.program c.priority))
       go None e = full_law e
       go (Some n) e = made_law n e

@@ -17,12 +17,13 @@ use Rattle.k_locks.specs.Shown.{shows}
 use Rattle.k_threads.specs.Words.{created_word}
 use Rattle.k_model.specs.State.{is_dead, is_present}
 use Rattle.k_model.proofs.Maps.{upd_cases, upd_same, upd_other}
-use Rattle.k_alone.specs.Memory.{Memory, table}
-use Rattle.k_alone.specs.Leaves.{Leaves, moved_word, pushed_by, state_told}
-use Rattle.k_alone.specs.Sound.{IsReady, IsSoundMemory}
+use Rattle.k_shown.specs.Memory.{Memory, table}
+use Rattle.k_shown.specs.Leaves.{Leaves, moved_word, pushed_by, state_told}
+use Rattle.k_shown.specs.Sound.{IsReady, IsSoundMemory}
 use Rattle.k_alone.proofs.CreateRuns.{made_memory}
-use Rattle.k_alone.proofs.Left.{AllStay, all_there, lists_pushed, moved_same, no_other, self_told}
+use Rattle.k_shown.proofs.Left.{AllStay, all_there, lists_pushed, moved_same, no_other}
 use Rattle.k_alone.proofs.Made.{reply_first}
+use Rattle.k_shown.proofs.Statuses.{same_self}
 
 module _ (m : Memory) (me id : ThreadId) (serial program priority : ℕ) (good : IsSoundMemory m) (dead : is_dead (shows (m.word id.number).state) ≡ true) (ne : me.number ≢ id.number) where
   abbrev left : Memory
@@ -73,7 +74,7 @@ module _ (m : Memory) (me id : ThreadId) (serial program priority : ℕ) (good :
 
   pub made_left : (m.word id.number).on ≡ false → priority < 64 → Leaves event (outcome.Made id) lines m left
   made_left off small =
-      let one : pushed_by m me (outcome.Made id) lines ≡ id ∷ [] = rw (self_told me, off) refl in
+      let one : pushed_by m me (outcome.Made id) lines ≡ id ∷ [] = rw (same_self me, off) refl in
       record {
         words = λ n alive _. words n alive;
         same = λ n _. same n;

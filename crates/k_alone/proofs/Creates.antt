@@ -1,90 +1,30 @@
--- What a create makes of a memory, and that the specification makes the same of the state.
-use Rattle.std.proofs.Common.{◌≡◌, ◌≢◌, ℕ, zero, suc, ◌+◌, ◌<◌, ◌≤◌, Bool, true, false, not, ◌&&◌, eqb, length, refl, sym, ap, ◌∙◌, subst, arith, inl, inr, Some, None}
-use Rattle.std.specs.Prelude.{if◌then◌else◌, nat_lt}
+-- What a create makes of a memory: its words, numbers and contexts are sound.
+use Rattle.std.proofs.Common.{◌≡◌, ◌≢◌, ℕ, ◌+◌, ◌<◌, Bool, true, false, not, ◌&&◌, eqb, length, refl, sym, ap, ◌∙◌, subst, arith, inl, inr, Some}
 use Rattle.std.proofs.lemmas.Bool.{false≢true, and_parts, cases_eq}
 use Rattle.std.proofs.lemmas.List.{length-set, get_or-set_same, get_or-set_other}
-use Rattle.std.proofs.lemmas.Nat.Bits.{bit_at_set_same, bit_at_set_other}
-use Rattle.std.specs.Int.{w64}
-use Rattle.std.specs.Option.{option_or}
 use Rattle.k_ids.specs.declared.threads.ThreadId.{ThreadId}
-use Rattle.k_ids.specs.declared.threads.Status.{Status}
 use Rattle.k_ids.specs.declared.threads.Status.TheVariants as status
-use Rattle.k_ids.specs.declared.calls.Outcome.TheVariants as outcome
-use Rattle.k_ids.specs.declared.calls.Reply.TheVariants as reply
 use Rattle.k_ids.specs.declared.context_word.ContextWord.{ContextWord}
 use Rattle.k_ids.specs.declared.context_word.ContextWord.TheVariants.{Empty, Clean}
-use Rattle.k_ids.specs.declared.state_word.Result4.TheVariants as result4
 use Rattle.k_ids.specs.declared.state_word.State.{State}
 use Rattle.k_ids.specs.declared.state_word.State.TheVariants as state
 use Rattle.k_ids.specs.declared.state_word.StateWord.{StateWord}
 use Rattle.k_ids.specs.StateWords.{IsStateWord, Agrees}
-use Rattle.k_locks.specs.declared.numbers.Numbers.{Numbers}
-use Rattle.k_locks.specs.Numbers.{version_at, with_thread, lowest_free}
-use Rattle.k_locks.specs.Numbers.{is_present as is_there, is_free as is_free_number, alive as alive_numbers, worn as worn_numbers, is_worn}
+use Rattle.k_locks.specs.Numbers.{ThreadNumbers}
+use Rattle.k_locks.specs.Numbers.{version_at, with_thread}
+use Rattle.k_locks.specs.Numbers.{is_present as is_there}
 use Rattle.k_locks.specs.Shown.{shows}
 use Rattle.k_ready.specs.Lists.{list_of}
-use Rattle.k_model.specs.Maps.{upd, lowest, count}
-use Rattle.k_model.specs.State.{KernelState, is_dead, is_present, answered, id_of}
-use Rattle.k_model.specs.Step.{create, created, renewed, is_free, alive, worn, last_version}
+use Rattle.k_model.specs.Maps.{upd}
+use Rattle.k_model.specs.State.{is_dead, is_present}
+use Rattle.k_model.specs.Step.{last_version}
 use Rattle.k_model.proofs.Maps.{upd_cases, upd_same, upd_other}
-use Rattle.k_model.proofs.Lists.{all_weaker}
-use Rattle.k_alone.specs.Memory.{Memory, Shows, table, with_word, with_context}
-use Rattle.k_alone.specs.Sound.{IsReady, IsSoundWords, IsSoundNumbers, IsSoundContexts, IsContext}
-use Rattle.k_alone.proofs.Shown.{shows_word}
-use Rattle.k_alone.proofs.Kept.{pushed, pushed_words, off_nowhere}
-
--- THE NUMBERS
-
-pub lowest_same : (f g : ℕ → Bool) (b : ℕ) → ((n : ℕ) → n < b → f n ≡ g n) → lowest f b ≡ lowest g b
-lowest_same f g zero h = refl
-lowest_same f g (suc n) h = λ d. option_or (lowest_same f g n (λ i l. h i (omega (arith, l))) d) (if (h n (omega arith)) d then Some n else None)
-
-pub count_same : (f g : ℕ → Bool) (b : ℕ) → ((n : ℕ) → n < b → f n ≡ g n) → count f b ≡ count g b
-count_same f g zero h = refl
-count_same f g (suc n) h = λ d. count_same f g n (λ i l. h i (omega (arith, l))) d + (if (h n (omega arith)) d then 1 else 0)
-
-not_not : (b : Bool) → not (not b) ≡ b
-not_not true = refl
-not_not false = refl
-
-module _ (m : Memory) (k : KernelState) (h : Shows m k) (s : IsSoundNumbers m) where
-  there_same : (n : ℕ) → n < m.size → is_there m.numbers n ≡ not (is_dead (k.place n).status)
-  there_same n l = s.present n l ∙ ap (λ (x : Status). not (is_dead x)) (sym (h.status n))
-
-  version_same : (n : ℕ) → n < m.size → version_at m.numbers n ≡ (k.place n).version
-  version_same n l = s.version n l ∙ sym (h.version n)
-
-  free_same : (n : ℕ) → n < m.size → is_free_number m.numbers n ≡ is_free (k.place n)
-  free_same n l = λ d. ((ap not (there_same n l) ∙ not_not (is_dead (k.place n).status)) d) && nat_lt (version_same n l d) last_version
-
-  worn_same : (n : ℕ) → n < m.size → is_worn m.numbers n ≡ (is_dead (k.place n).status && eqb (k.place n).version last_version)
-  worn_same n l = λ d. ((ap not (there_same n l) ∙ not_not (is_dead (k.place n).status)) d) && eqb (version_same n l d) last_version
-
-  pub lowest_is : lowest_free m.numbers ≡ lowest (λ n. is_free (k.place n)) k.size
-  lowest_is = ap (lowest (is_free_number m.numbers)) s.count ∙ lowest_same (is_free_number m.numbers) (λ n. is_free (k.place n)) m.size free_same ∙ ap (lowest (λ n. is_free (k.place n))) (sym h.size)
-
-  pub alive_is : alive_numbers m.numbers ≡ alive k
-  alive_is = ap (count (is_there m.numbers)) s.count ∙ count_same (is_there m.numbers) (λ n. not (is_dead (k.place n).status)) m.size there_same ∙ ap (count (λ n. not (is_dead (k.place n).status))) (sym h.size)
-
-  pub worn_is : worn_numbers m.numbers ≡ worn k
-  worn_is = ap (count (is_worn m.numbers)) s.count ∙ count_same (is_worn m.numbers) (λ n. is_dead (k.place n).status && eqb (k.place n).version last_version) m.size worn_same ∙ ap (count (λ n. is_dead (k.place n).status && eqb (k.place n).version last_version)) (sym h.size)
-
--- THE ROWS OF A CREATE
-
-module _ (k : KernelState) (me : ThreadId) (serial : ℕ) where
-  pub create_makes : (n : ℕ) → lowest (λ i. is_free (k.place i)) k.size ≡ Some n → create k me serial ≡ (answered (renewed k n) me serial (reply.Made (id_of (renewed k n) n)), outcome.Made (id_of (renewed k n) n))
-  unfolding create created
-  create_makes n e = rw e refl
-
-  pub create_full : lowest (λ i. is_free (k.place i)) k.size ≡ None → create k me serial ≡ (answered k me serial (reply.Full (alive k) (worn k)), outcome.Full (alive k) (worn k))
-  unfolding create created
-  create_full e = rw e refl
-
--- THE NEW THREAD
-
--- the word of a new thread
-abbrev pub new_word : ℕ → ℕ → StateWord
-new_word version priority = record { version = version; priority = priority; on = true; state = state.Run result4.Plain }
+use Rattle.k_lists.proofs.All.{all_weaker}
+use Rattle.k_shown.specs.Memory.{Memory, table, with_word, with_context}
+use Rattle.k_shown.specs.Words.{new_word}
+use Rattle.k_shown.specs.Sound.{IsReady, IsSoundWords, IsSoundNumbers, IsSoundContexts, IsContext}
+use Rattle.k_shown.proofs.Kept.{pushed, pushed_words, off_nowhere}
+use Rattle.k_shown.proofs.Statuses.{run_sends, run_waits}
 
 -- the context is placed, and the word written
 abbrev pub making : Memory → ThreadId → ℕ → Memory
@@ -102,20 +42,7 @@ both_dead : (b : Bool) → not b ≡ true → b ≡ true → ⊥
 both_dead true e f = false≢true e
 both_dead false e f = false≢true f
 
-run_sends : (id : ThreadId) → status.Run ≡ status.Sending id → ⊥
-run_sends id e = cc
-
-run_waits : (id : ThreadId) → status.Run ≡ status.Receiving (Some id) → ⊥
-run_waits id e = cc
-
 module _ (m : Memory) (id : ThreadId) (priority : ℕ) (dead : is_dead (shows (m.word id.number).state) ≡ true) (next : id.version ≡ (m.word id.number).version + 1) (young : (m.word id.number).version < last_version) (small : priority < 64) where
-  pub shows_making : (k : KernelState) → Shows m k → Shows (making m id priority) (renewed k id.number)
-  shows_making k h =
-      shows_word (with_context m id.number (Clean id.version)) k id.number (new_word id.version priority)
-      (record (k.place id.number) { version = (k.place id.number).version + 1; status = status.Run; joined = false; serial = 0 })
-      (record { version = ap (λ (x : ℕ). x + 1) (h.version id.number) ∙ sym next; status = refl; joined = refl; waiting = h.waiting id.number })
-      (record { size = h.size; version = h.version; status = h.status; joined = h.joined; waiting = h.waiting })
-
   new_sound : IsStateWord (new_word id.version priority)
   new_sound = record { version = omega (arith, young, next); priority = omega (arith, small); partner = tt; agrees = omega (arith, next) }
 
@@ -163,31 +90,26 @@ module _ (m : Memory) (id : ThreadId) (priority : ℕ) (dead : is_dead (shows (m
       (pushed_words (making m id priority) id (made_words i) (ap (λ (w : StateWord). w.version) new_is) (ap (λ (w : StateWord). is_dead (shows w.state)) new_is) (ap (λ (w : StateWord). w.on) new_is) (off_nowhere m id.number i.ready off))
 
   -- the numbers and the contexts after the create
-  pub numbers_made : (m' : Memory) → m'.size ≡ m.size → m'.word ≡ (making m id priority).word → m'.numbers ≡ with_thread id.number m.numbers → id.number < m.size → m.size ≤ 64 → IsSoundNumbers m → IsSoundNumbers m'
-  numbers_made m' es ew en inside few s =
-      let ns = with_thread id.number m.numbers in
+  pub numbers_made : (m' : Memory) → m'.size ≡ m.size → m'.word ≡ (making m id priority).word → m'.numbers ≡ with_thread id.number m.numbers → id.number < m.size → IsSoundNumbers m → IsSoundNumbers m'
+  numbers_made m' es ew en inside s =
       let v1 = version_at m.numbers id.number + 1 in
-      let within : id.number < 64 = omega (arith, inside, few) in
       record {
-        count = ap (λ (x : Numbers). x.count) en ∙ s.count ∙ sym es;
-        versions = ap (λ (x : Numbers). length x.versions) en ∙ length-set m.numbers.versions id.number v1 ∙ s.versions;
-        version = λ t l. ap (λ (x : Numbers). version_at x t) en ∙ version_made t (subst (λ (x : ℕ). t < x) es l) ∙ sym (ap (λ (f : ℕ → StateWord). (f t).version) ew);
-        present = λ t l. ap (λ (x : Numbers). is_there x t) en ∙ there_made t (subst (λ (x : ℕ). t < x) es l) ∙ sym (ap (λ (f : ℕ → StateWord). not (is_dead (shows (f t).state))) ew);
+        versions = ap (λ (x : ThreadNumbers). length x.versions) en ∙ length-set m.numbers.versions id.number v1 ∙ s.versions ∙ sym es;
+        presences = ap (λ (x : ThreadNumbers). length x.present) en ∙ length-set m.numbers.present id.number true ∙ s.presences ∙ sym es;
+        version = λ t l. ap (λ (x : ThreadNumbers). version_at x t) en ∙ version_made t (subst (λ (x : ℕ). t < x) es l) ∙ sym (ap (λ (f : ℕ → StateWord). (f t).version) ew);
+        present = λ t l. ap (λ (x : ThreadNumbers). is_there x t) en ∙ there_made t (subst (λ (x : ℕ). t < x) es l) ∙ sym (ap (λ (f : ℕ → StateWord). not (is_dead (shows (f t).state))) ew);
       }
     where
-      within : id.number < 64
-      within = omega (arith, inside, few)
-
       version_made : (t : ℕ) → t < m.size → version_at (with_thread id.number m.numbers) t ≡ ((making m id priority).word t).version
       version_made t l = elim (cases_eq t id.number) [
-        | inl e ↦ rw e (get_or-set_same m.numbers.versions id.number (version_at m.numbers id.number + 1) 0 (omega (arith, within, s.versions)) ∙ ap (λ (x : ℕ). x + 1) (s.version id.number inside) ∙ sym next ∙ sym (ap (λ (w : StateWord). w.version) new_is))
+        | inl e ↦ rw e (get_or-set_same m.numbers.versions id.number (version_at m.numbers id.number + 1) 0 (omega (arith, inside, s.versions)) ∙ ap (λ (x : ℕ). x + 1) (s.version id.number inside) ∙ sym next ∙ sym (ap (λ (w : StateWord). w.version) new_is))
         | inr ne ↦ get_or-set_other m.numbers.versions id.number t (version_at m.numbers id.number + 1) 0 ne ∙ s.version t l ∙ sym (ap (λ (w : StateWord). w.version) (upd_other m.word id.number (new_word id.version priority) t ne))
       ]
 
       there_made : (t : ℕ) → t < m.size → is_there (with_thread id.number m.numbers) t ≡ not (is_dead (shows ((making m id priority).word t).state))
       there_made t l = elim (cases_eq t id.number) [
-        | inl e ↦ rw e (ap (λ (b : ℕ). eqb b 1) (bit_at_set_same w64 m.numbers.present id.number within) ∙ sym (ap (λ (w : StateWord). not (is_dead (shows w.state))) new_is))
-        | inr ne ↦ ap (λ (b : ℕ). eqb b 1) (bit_at_set_other w64 m.numbers.present id.number within t ne) ∙ s.present t l ∙ sym (ap (λ (w : StateWord). not (is_dead (shows w.state))) (upd_other m.word id.number (new_word id.version priority) t ne))
+        | inl e ↦ rw e (get_or-set_same m.numbers.present id.number true false (omega (arith, inside, s.presences)) ∙ sym (ap (λ (w : StateWord). not (is_dead (shows w.state))) new_is))
+        | inr ne ↦ get_or-set_other m.numbers.present id.number t true false ne ∙ s.present t l ∙ sym (ap (λ (w : StateWord). not (is_dead (shows w.state))) (upd_other m.word id.number (new_word id.version priority) t ne))
       ]
 
   pub contexts_made : (m' : Memory) → m'.word ≡ (making m id priority).word → m'.context ≡ (making m id priority).context → IsSoundContexts m → IsSoundContexts m'

@@ -2,8 +2,10 @@
 use Rattle.std.proofs.Common.{◌≡◌, ◌≢◌, ℕ, suc, ◌≤◌, Bool, true, false, not, ◌&&◌, eqb, List, [], ◌∷◌, ◌++◌, map, length, refl, sym, ap, ◌∙◌, subst, arith, Option, inl, inr}
 use Rattle.std.proofs.lemmas.Bool.{false≢true, and_parts, eq-eqb, ne_eqb, cases_Bool, cases_eq, cases_lt, not-true}
 use Rattle.std.proofs.lemmas.List.{append-nil, length-map}
+use Rattle.std.proofs.Math.Bool.{and-false}
 use Rattle.std.specs.List.{AllByRecursion, filter}
 use Rattle.k_ids.specs.declared.threads.ThreadId.{ThreadId}
+use Rattle.k_ids.specs.declared.threads.Message.{Message}
 use Rattle.k_ids.specs.declared.threads.Status.{Status}
 use Rattle.k_ids.specs.declared.threads.Status.TheVariants as status
 use Rattle.k_ids.specs.declared.calls.Phase.TheVariants as phase
@@ -21,23 +23,24 @@ use Rattle.k_ids.specs.declared.state_word.StateWord.{StateWord}
 use Rattle.k_senders.specs.declared.entries.SenderEntry.{SenderEntry}
 use Rattle.k_senders.specs.Queue.{Queue, without_thread}
 use Rattle.k_ready.specs.Lists.{list_of}
-use Rattle.k_locks.specs.declared.numbers.Numbers.{Numbers}
+use Rattle.k_locks.specs.Numbers.{ThreadNumbers}
 use Rattle.k_locks.specs.Shown.{shows}
 use Rattle.k_ipc.specs.Words.{on_in}
 use Rattle.k_threads.specs.declared.destroy.DestroyCall.{DestroyCall}
-use Rattle.k_threads.specs.Hands.{unlinked}
+use Rattle.k_threads.specs.Goods.{unlinked}
 use Rattle.k_model.specs.Maps.{upd}
 use Rattle.k_model.specs.State.{KernelState, is_dead, is_present, is_run, same_id}
-use Rattle.k_model.proofs.Lists.{all_filter, all_map, all_weaker}
+use Rattle.k_lists.proofs.All.{all_filter, all_map, all_weaker, filter_all, filter_same}
 use Rattle.k_model.proofs.Maps.{upd_cases}
-use Rattle.k_alone.specs.Memory.{Memory, table, waiting, waiting_of, with_numbers}
-use Rattle.k_alone.specs.Leaves.{IsWoken, Leaves, mail_with, moved_word, pushed_by, result_with, state_told}
-use Rattle.k_alone.specs.Sound.{IsCaller, IsReady, IsSoundMemory}
-use Rattle.k_alone.proofs.Gone.{IsGone, at_level, filter_all, filter_same, ids_of, is_not}
+use Rattle.k_shown.specs.Memory.{Memory, table, waiting, waiting_of, with_numbers}
+use Rattle.k_shown.specs.Leaves.{IsWoken, Leaves, mail_with, moved_word, pushed_by, result_with, state_told}
+use Rattle.k_shown.specs.Sound.{IsCaller, IsReady, IsSoundMemory}
+use Rattle.k_alone.proofs.Gone.{IsGone, at_level, ids_of, is_not}
 use Rattle.k_alone.proofs.Killing.{Half}
-use Rattle.k_alone.proofs.Left.{Turns, no_other, self_told, turned_same, turned_word, woken_turns}
+use Rattle.k_shown.proofs.Left.{Turns, no_other, turned_same, turned_word, woken_turns}
 use Rattle.k_alone.proofs.Made.{reply_first}
 use Rattle.k_alone.proofs.VisitRuns.{Visited}
+use Rattle.k_shown.proofs.Statuses.{same_self}
 
 run_not : (s : Status) → s ≢ status.Run → is_run s ≡ false
 run_not status.Dead ne = refl
@@ -78,7 +81,7 @@ no_entries (e ∷ es) h =
 
 -- AT THE END
 
-module _ (c : DestroyCall) (m : Memory) (k : KernelState) (own : StateWord) (serial : ℕ) (good : IsSoundMemory m) (call : IsCaller m c.caller own) (here : is_present (table m) c.who ≡ true) (ne : c.caller.number ≢ c.who.number) (mf : Memory) (kf : KernelState) (h : Half m k c.who c.caller ⊥ (λ t. ⊥) (λ t. c.count ≤ t) mf kf) (v : Visited c m c.count mf) (lines : List ReplyLine) (gone : AllByRecursion (IsGone m c.who c.caller mf) lines) (ns : Numbers) where
+module _ (c : DestroyCall) (m : Memory) (k : KernelState) (own : StateWord) (serial : ℕ) (good : IsSoundMemory m) (call : IsCaller m c.caller own) (here : is_present (table m) c.who ≡ true) (ne : c.caller.number ≢ c.who.number) (mf : Memory) (kf : KernelState) (h : Half m k c.who c.caller ⊥ (λ t. ⊥) (λ t. c.count ≤ t) mf kf) (v : Visited c m c.count mf) (lines : List ReplyLine) (gone : AllByRecursion (IsGone m c.who c.caller mf) lines) (ns : ThreadNumbers) where
   abbrev left : Memory
   left = with_numbers mf ns
 
@@ -132,7 +135,7 @@ module _ (c : DestroyCall) (m : Memory) (k : KernelState) (own : StateWord) (ser
     all_weaker (IsGone m c.who c.caller mf) (λ line. same_id line.id c.caller ≡ false → IsWoken m left line)
         (λ line g _. record {
           word = g.word ∙ sym (ap (λ (r : Reply). on_in (state.Run (result_with r)) (m.word line.id.number)) g.reply);
-          mail = ap (λ (f : ℕ → ℕ). f line.id.number) h.mails ∙ sym (ap (λ (r : Reply). mail_with r (m.mail line.id.number)) g.reply);
+          mail = ap (λ (f : ℕ → Message). f line.id.number) h.mails ∙ sym (ap (λ (r : Reply). mail_with r (m.mail line.id.number)) g.reply);
         }) lines gone,
   )
 
@@ -157,13 +160,9 @@ module _ (c : DestroyCall) (m : Memory) (k : KernelState) (own : StateWord) (ser
   stayed : (p : ℕ) → filter (is_not c.who.number) (list_of m.ready.lists p) ≡ filter (λ id. is_present (table left) id) (list_of m.ready.lists p)
   stayed p = filter_same (is_not c.who.number) (λ id. is_present (table left) id) (list_of m.ready.lists p) (all_weaker (IsReady m p) (λ id. is_not c.who.number id ≡ is_present (table left) id) at (list_of m.ready.lists p) (good.words.ready.ready p))
     where
-      and_false : (b : Bool) → (b && false) ≡ false
-      and_false true = refl
-      and_false false = refl
-
       at : (id : ThreadId) → IsReady m p id → is_not c.who.number id ≡ is_present (table left) id
       at id r = elim (cases_eq id.number c.who.number) [
-        | inl e ↦ ap not (eq-eqb id.number c.who.number e) ∙ sym (ap (λ (b : Bool). eqb (mf.word id.number).version id.version && not b) (dead id.number e) ∙ and_false (eqb (mf.word id.number).version id.version))
+        | inl e ↦ ap not (eq-eqb id.number c.who.number e) ∙ sym (ap (λ (b : Bool). eqb (mf.word id.number).version id.version && not b) (dead id.number e) ∙ and-false (eqb (mf.word id.number).version id.version))
         | inr other ↦ ap not (ne_eqb id.number c.who.number other) ∙ sym (rw (h.version id.number, h.alive id.number other, r.version, r.alive, eq-eqb id.version id.version refl) refl)
       ]
 
@@ -171,7 +170,7 @@ module _ (c : DestroyCall) (m : Memory) (k : KernelState) (own : StateWord) (ser
   others = filter_all (λ id. not (same_id id c.caller)) (ids_of lines) (all_map (λ id. not (same_id id c.caller) ≡ true) (λ line. line.id) lines (all_weaker (IsGone m c.who c.caller mf) (λ line. not (same_id line.id c.caller) ≡ true) (λ line g. ap not g.other) lines gone))
 
   pushed_are : pushed_by m c.caller outcome.Killed (killed_line ∷ lines) ≡ filter (λ id. not (m.word id.number).on) (ids_of lines)
-  pushed_are = rw (self_told c.caller) (ap (filter (λ id. not (m.word id.number).on)) (append-nil _ ∙ others))
+  pushed_are = rw (same_self c.caller) (ap (filter (λ id. not (m.word id.number).on)) (append-nil _ ∙ others))
 
   levels : (p : ℕ) → filter (λ id. eqb (mf.word id.number).priority p) (filter (λ id. not (m.word id.number).on) (ids_of lines)) ≡ at_level m p (ids_of lines)
   levels p = filter_same (λ id. eqb (mf.word id.number).priority p) (λ id. eqb (m.word id.number).priority p) (filter (λ id. not (m.word id.number).on) (ids_of lines))
@@ -186,7 +185,7 @@ module _ (c : DestroyCall) (m : Memory) (k : KernelState) (own : StateWord) (ser
     made = λ n was lives. absurd (not_made n was lives);
     woken = woken;
     own = λ _. ap (λ (w : StateWord). w.state) caller_same ∙ sym (ap (λ (r : Option Reply). state_told r (m.word c.caller.number).state) (reply_first c.caller serial reply.Killed lines));
-    mails = λ n _. ap (λ (f : ℕ → ℕ). f n) h.mails;
+    mails = λ n _. ap (λ (f : ℕ → Message). f n) h.mails;
     queues = queues;
     contexts = contexts context;
     lists = λ p. lists p ∙ ap (λ (xs : List ThreadId). xs ++ at_level m p (ids_of lines)) (stayed p) ∙ ap (λ (xs : List ThreadId). filter (λ id. is_present (table left) id) (list_of m.ready.lists p) ++ xs) (sym (ap (filter (λ id. eqb (mf.word id.number).priority p)) pushed_are ∙ levels p));

@@ -1,6 +1,5 @@
 -- The threads that a destroy frees, and the ready lists to which they come.
 use Rattle.std.proofs.Common.{◌≡◌, ◌≢◌, ℕ, Bool, true, false, not, ◌&&◌, eqb, List, [], ◌∷◌, ◌++◌, map, refl, sym, ap, ◌∙◌, inl, inr}
-use Rattle.std.specs.Prelude.{if◌then◌else◌}
 use Rattle.std.proofs.lemmas.Bool.{false≢true, eqb-true, eq-eqb, ne_eqb, cases_Bool, or_parts}
 use Rattle.std.proofs.lemmas.List.{append-nil}
 use Rattle.std.proofs.lemmas.List.Elements.{filter-append}
@@ -13,15 +12,15 @@ use Rattle.k_ids.specs.declared.state_word.StateWord.{StateWord}
 use Rattle.k_ready.specs.Lists.{IsOnceEach, has_thread, list_of}
 use Rattle.k_ready.specs.Lists.{stands as listed, without as cut}
 use Rattle.k_locks.specs.Shown.{shows}
-use Rattle.k_threads.specs.Hands.{without_it}
+use Rattle.k_threads.specs.Goods.{without_it}
 use Rattle.k_threads.specs.Words.{freed_word, thread_at}
 use Rattle.k_model.specs.State.{KernelState, same_id}
-use Rattle.k_model.proofs.Lists.{all_filter, all_map, all_weaker}
+use Rattle.k_lists.proofs.All.{all_filter, all_map, all_weaker, filter_all}
 use Rattle.k_model.proofs.Maps.{upd_same, upd_other}
-use Rattle.k_alone.specs.Memory.{Memory, with_word}
-use Rattle.k_alone.proofs.Kept.{pushed}
+use Rattle.k_shown.specs.Memory.{Memory, with_word}
+use Rattle.k_shown.proofs.Kept.{pushed}
 use Rattle.k_alone.proofs.Killing.{Half, Waits, not_caller, waits_same}
-use Rattle.k_alone.proofs.Left.{pushed_list}
+use Rattle.k_shown.proofs.Left.{pushed_list}
 
 abbrev pub ids_of : List ReplyLine → List ThreadId
 ids_of lines = map (λ line. line.id) lines
@@ -83,14 +82,6 @@ module _ (m : Memory) (k : KernelState) (who me : ThreadId) (V : Type 0) (S R : 
 
 abbrev pub is_not : ℕ → ThreadId → Bool
 is_not n id = not (eqb id.number n)
-
-pub filter_same : (f g : ThreadId → Bool) (ids : List ThreadId) → AllByRecursion (λ id. f id ≡ g id) ids → filter f ids ≡ filter g ids
-filter_same f g [] all = refl
-filter_same f g (id ∷ ids) all = λ d. if all.0 d then id ∷ filter_same f g ids all.1 d else filter_same f g ids all.1 d
-
-pub filter_all : (f : ThreadId → Bool) (ids : List ThreadId) → AllByRecursion (λ id. f id ≡ true) ids → filter f ids ≡ ids
-filter_all f [] all = refl
-filter_all f (id ∷ ids) all = rw all.0 (ap (λ (xs : List ThreadId). id ∷ xs) (filter_all f ids all.1))
 
 none_cut : (n : ℕ) (ids : List ThreadId) → listed n ids ≡ false → filter (is_not n) ids ≡ ids
 none_cut n [] none = refl

@@ -13,33 +13,21 @@ use Rattle.k_senders.specs.Queue.{Queue}
 use Rattle.k_senders.specs.Queue.{stands as waits}
 use Rattle.k_ready.specs.Lists.{IsOnceEach, list_of}
 use Rattle.k_locks.specs.Shown.{shows}
-use Rattle.k_threads.specs.Hands.{unlisted, without_it}
+use Rattle.k_threads.specs.Goods.{unlisted, without_it}
 use Rattle.k_threads.specs.Words.{dead_word}
 use Rattle.k_model.specs.Maps.{upd}
 use Rattle.k_model.specs.State.{KernelState, answered, id_of, is_dead, is_present}
 use Rattle.k_model.specs.Step.{killed}
 use Rattle.k_model.proofs.Maps.{upd_cases, upd_same, upd_other}
-use Rattle.k_model.proofs.Lists.{all_weaker}
+use Rattle.k_lists.proofs.All.{all_weaker}
 use Rattle.k_model.proofs.Places.{killed_version, killed_serial, killed_status, killed_joined}
-use Rattle.k_alone.specs.Memory.{Memory, Shows, table, with_word, with_queue, with_context, with_ready, joined_of}
-use Rattle.k_alone.specs.Sound.{IsReady, IsSoundMemory}
-use Rattle.k_alone.proofs.Kept.{room_kept}
+use Rattle.k_shown.specs.Memory.{Memory, Shows, table, with_word, with_queue, with_context, with_ready, joined_of}
+use Rattle.k_shown.specs.Sound.{IsReady, IsSoundMemory}
+use Rattle.k_shown.proofs.Kept.{room_kept}
 use Rattle.k_alone.proofs.Killing.{Half, Listed}
 use Rattle.k_alone.proofs.Unlinked.{has_stands, listed_map, without_it_all, without_it_once}
-
-size_killed : (k : KernelState) (who : ThreadId) → (killed k who).size ≡ k.size
-unfolding killed
-size_killed k who = refl
-
-pub replies_killed : (k : KernelState) (who : ThreadId) → (killed k who).replies ≡ k.replies
-unfolding killed
-replies_killed k who = refl
-
-dead_sends : (to : ThreadId) → status.Dead ≡ status.Sending to → ⊥
-dead_sends to e = cc
-
-dead_waits : (from : ThreadId) → status.Dead ≡ status.Receiving (Some from) → ⊥
-dead_waits from e = cc
+use Rattle.k_shown.proofs.TableRows.{killed_size}
+use Rattle.k_shown.proofs.Statuses.{dead_sends, dead_waits}
 
 module _ (m : Memory) (k : KernelState) (who me : ThreadId) (serial : ℕ) (h : Shows m k) (good : IsSoundMemory m) (here : is_present (table m) who ≡ true) (ne : me.number ≢ who.number) (runs : (k.place me.number).status ≡ status.Run) where
   version_is : (m.word who.number).version ≡ who.version
@@ -73,7 +61,7 @@ module _ (m : Memory) (k : KernelState) (who me : ThreadId) (serial : ℕ) (h : 
   pub half_killed : Half m k who me (Unit {0}) (λ t. waits t (m.queue who.number).entries ≡ true) (λ t. Unit {0}) killed_memory (answered (killed k who) me serial reply.Killed)
   half_killed = record {
     size = refl;
-    table_size = size_killed k who ∙ h.size;
+    table_size = killed_size k who ∙ h.size;
     version = λ n. upd_cases (λ (w : StateWord). w.version ≡ (m.word n).version) m.word who.number (dead_word who.version) n (λ e. sym version_is ∙ ap (λ (x : ℕ). (m.word x).version) (sym e)) (λ _. refl);
     alive = λ n other. ap (λ (w : StateWord). is_dead (shows w.state)) (upd_other m.word who.number (dead_word who.version) n other);
     dead = upd_same m.word who.number (dead_word who.version);

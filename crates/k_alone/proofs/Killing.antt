@@ -1,7 +1,8 @@
 -- A memory while a destroy goes on: its victim is dead, and not all who wait for it have been freed yet.
-use Rattle.std.proofs.Common.{◌≡◌, ◌≢◌, ℕ, ◌<◌, Bool, true, false, not, ◌&&◌, eqb, List, [], ◌∷◌, ◌++◌, length, refl, sym, ap, ◌∙◌, subst, arith, Some, inl, inr, ◌⊎◌}
+use Rattle.std.proofs.Common.{◌≡◌, ◌≢◌, ℕ, ◌<◌, true, false, not, ◌&&◌, eqb, List, [], ◌∷◌, ◌++◌, length, refl, sym, ap, ◌∙◌, subst, arith, Some, inl, inr, ◌⊎◌}
 use Rattle.std.proofs.lemmas.Bool.{false≢true, eq-eqb, ne_eqb}
 use Rattle.std.proofs.lemmas.List.{length-set}
+use Rattle.std.proofs.Math.Bool.{and-false}
 use Rattle.std.specs.List.{AllByRecursion}
 use Rattle.k_ids.specs.declared.threads.ThreadId.{ThreadId}
 use Rattle.k_ids.specs.declared.threads.Status.TheVariants as status
@@ -12,17 +13,18 @@ use Rattle.k_ids.specs.declared.state_word.State.TheVariants as state
 use Rattle.k_ids.specs.declared.state_word.StateWord.{StateWord}
 use Rattle.k_ids.specs.StateWords.{IsStateWord}
 use Rattle.k_ready.specs.Lists.{IsOnceEach, list_of, stands}
-use Rattle.k_ready.proofs.Appended.{once_append}
+use Rattle.k_links.proofs.Appended.{once_append}
 use Rattle.k_locks.specs.Shown.{shows}
 use Rattle.k_threads.specs.Words.{dead_word, freed_word}
 use Rattle.k_model.specs.State.{KernelState, Place, answered, is_dead, is_present, waits_for_absent, with_status}
 use Rattle.k_model.specs.Step.{killed, may_act}
 use Rattle.k_model.proofs.Maps.{upd_tells, upd_cases, upd_other}
-use Rattle.k_model.proofs.Lists.{all_weaker, all_push}
-use Rattle.k_alone.specs.Memory.{Memory, table, with_word, joined_of}
-use Rattle.k_alone.specs.Sound.{IsReady}
-use Rattle.k_alone.proofs.Kept.{pushed, list_cases}
-use Rattle.k_alone.proofs.States.{on_word}
+use Rattle.k_lists.proofs.All.{all_weaker, all_push}
+use Rattle.k_shown.specs.Memory.{Memory, table, with_word, joined_of}
+use Rattle.k_shown.specs.Sound.{IsReady}
+use Rattle.k_shown.proofs.Kept.{pushed, list_cases}
+use Rattle.k_shown.proofs.States.{on_word}
+use Rattle.k_shown.proofs.Statuses.{run_sends, run_waits, dead_sends, dead_waits}
 
 -- who stands in a ready list: a thread that may, or the victim, as long as `V`
 abbrev pub Listed : Type 0 → ThreadId → Memory → ℕ → ThreadId → Type 0
@@ -77,19 +79,9 @@ receiving_waits who w e = record {
   runs = λ r. let one : status.Run ≡ status.Receiving (Some who) = sym r ∙ e in cc;
 }
 
-run_sends : (id : ThreadId) → status.Run ≡ status.Sending id → ⊥
-run_sends id e = cc
-
-run_waits : (id : ThreadId) → status.Run ≡ status.Receiving (Some id) → ⊥
-run_waits id e = cc
-
 module _ (m : Memory) (k : KernelState) (who me : ThreadId) (V : Type 0) (S R : ℕ → Type 0) (m' : Memory) (k' : KernelState) (h : Half m k who me V S R m' k') where
   pub victim_absent : is_present k' who ≡ false
-  victim_absent = rw (h.doing who.number, h.dead) (and_false (eqb (k'.place who.number).version who.version))
-    where
-      and_false : (b : Bool) → (b && false) ≡ false
-      and_false true = refl
-      and_false false = refl
+  victim_absent = rw (h.doing who.number, h.dead) (and-false (eqb (k'.place who.number).version who.version))
 
   -- The gone event of a thread that waits for the victim may be made.
   pub may_free : (n : ℕ) → Waits who (m'.word n) → may_act k' (record { number = n; version = (m'.word n).version }) (k.place n).serial act.Gone ≡ true
@@ -111,8 +103,8 @@ module _ (m : Memory) (k : KernelState) (who me : ThreadId) (V : Type 0) (S R : 
     waiting = h.waiting;
     serial = h.serial;
     words = h.words;
-    sending = λ n to e. elim (h.sending n to e) [ inl p ↦ inl p | inr q ↦ inr (q.0, fs n (living n (λ x. sends_dead to (sym (ap (λ (y : ℕ). shows (m'.word y).state) x ∙ ap (λ (y : StateWord). shows y.state) h.dead) ∙ e))) (e ∙ ap status.Sending q.0) q.1) ];
-    receiving = λ n from e. elim (h.receiving n from e) [ inl p ↦ inl p | inr q ↦ inr (q.0, fr n (living n (λ x. waits_dead from (sym (ap (λ (y : ℕ). shows (m'.word y).state) x ∙ ap (λ (y : StateWord). shows y.state) h.dead) ∙ e))) (e ∙ ap (λ (y : ThreadId). status.Receiving (Some y)) q.0) q.1) ];
+    sending = λ n to e. elim (h.sending n to e) [ inl p ↦ inl p | inr q ↦ inr (q.0, fs n (living n (λ x. dead_sends to (sym (ap (λ (y : ℕ). shows (m'.word y).state) x ∙ ap (λ (y : StateWord). shows y.state) h.dead) ∙ e))) (e ∙ ap status.Sending q.0) q.1) ];
+    receiving = λ n from e. elim (h.receiving n from e) [ inl p ↦ inl p | inr q ↦ inr (q.0, fr n (living n (λ x. dead_waits from (sym (ap (λ (y : ℕ). shows (m'.word y).state) x ∙ ap (λ (y : StateWord). shows y.state) h.dead) ∙ e))) (e ∙ ap (λ (y : ThreadId). status.Receiving (Some y)) q.0) q.1) ];
     apart = h.apart;
     count = h.count;
     ready = h.ready;
@@ -126,12 +118,6 @@ module _ (m : Memory) (k : KernelState) (who me : ThreadId) (V : Type 0) (S R : 
     where
       living : (n : ℕ) → (n ≡ who.number → ⊥) → n ≢ who.number
       living n f = f
-
-      sends_dead : (to : ThreadId) → status.Dead ≡ status.Sending to → ⊥
-      sends_dead to e = cc
-
-      waits_dead : (from : ThreadId) → status.Dead ≡ status.Receiving (Some from) → ⊥
-      waits_dead from e = cc
 
   -- A thread that waits for the victim runs again, with the reply Gone.
   module _ (n : ℕ) (w : Waits who (m'.word n)) (ne : n ≢ who.number) where
@@ -251,7 +237,7 @@ module _ (m : Memory) (k : KernelState) (who me : ThreadId) (V : Type 0) (S R : 
             (all_push (Listed V who mp p) (list_of m'.ready.lists p) id (all_weaker (Listed V who m' p) (Listed V who mp p) (same p) (list_of m'.ready.lists p) (h.ready p)) (inl (record { version = v; alive = a; on = on; level = refl }))))
             (λ _. all_weaker (Listed V who m' q) (Listed V who mp q) (same q) (list_of m'.ready.lists q) (h.ready q));
         once = λ q. list_cases IsOnceEach m'.ready.lists p (list_of m'.ready.lists p ++ id ∷ []) q l
-            (λ _. once_append (list_of m'.ready.lists p) id (h.once p) (free p))
+            (λ _. once_append (λ (i : ThreadId). i.number) (list_of m'.ready.lists p) id (h.once p) (free p))
             (λ _. h.once q);
         caller = h.caller;
         room = h.room;

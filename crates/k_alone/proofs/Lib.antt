@@ -1,13 +1,8 @@
-mod Shown
-mod Kept
 mod Runs
-mod States
-mod Rooms
 mod Sends
 mod Made
 mod Queues
 mod Receives
-mod Left
 mod Creates
 mod CreateRuns
 mod CreateLeft
@@ -29,5 +24,4 @@ mod VisitRuns
 mod DestroyRuns
 mod DestroyLeft
 mod DestroyLaw
-mod Booted
 mod Begun

@@ -1,30 +1,28 @@
 -- What a run comes to, put together from its parts.
-use Rattle.std.proofs.Common.{◌≡◌, ℕ, ◌<◌, ◌≤◌, Bool, true, false, List, [], ◌∷◌, ◌++◌, refl, sym, ap, ◌∙◌, subst, Some, Ok}
-use Rattle.std.specs.Prelude.{if◌then◌else◌}
+use Rattle.std.proofs.Common.{◌≡◌, ℕ, ◌<◌, ◌≤◌, true, false, List, [], ◌∷◌, ◌++◌, refl, sym, ap, ◌∙◌, subst, Some, Ok}
 use Rattle.std.proofs.lemmas.Bool.{eq-eqb}
-use Rattle.std.proofs.lemmas.List.{append-nil}
 use Rattle.std.specs.List.{AllByRecursion}
 use Rattle.k_ids.specs.declared.threads.ThreadId.{ThreadId}
-use Rattle.k_ids.specs.declared.threads.Status.{Status}
 use Rattle.k_ids.specs.declared.calls.Reply.{Reply}
-use Rattle.k_ids.specs.declared.calls.Reply.TheVariants as reply
 use Rattle.k_ids.specs.declared.calls.Outcome.{Outcome}
 use Rattle.k_ids.specs.declared.histories.Entry.{Entry}
 use Rattle.k_ids.specs.declared.histories.Event.{Event}
 use Rattle.k_ids.specs.declared.histories.ReplyLine.{ReplyLine}
-use Rattle.k_model.specs.State.{KernelState, same_id, is_run, answered, with_status}
-use Rattle.k_model.specs.Step.{step, outcome_of, is_enabled, sent}
+use Rattle.k_model.specs.State.{KernelState, same_id}
+use Rattle.k_model.specs.Step.{step, outcome_of, is_enabled}
 use Rattle.k_model.specs.History.{IsReplay}
 use Rattle.k_model.specs.Answered.{reply_to}
 use Rattle.k_model.specs.Sound.{IsSound}
 use Rattle.k_model.proofs.Sound.{acted-sound}
 use Rattle.k_model.proofs.Replays.{step_enabled, replay_listed}
-use Rattle.k_alone.specs.Leaves.{Leaves}
-use Rattle.k_alone.specs.Memory.{Shows}
-use Rattle.k_alone.specs.Sound.{IsSoundWords, IsSoundNumbers, IsSoundContexts, IsSoundMemory}
-use Rattle.k_alone.specs.Alone.{Table, Run, Makes, Tells, IsFreed}
-use Rattle.k_alone.proofs.Kept.{SameThreads, sound_memory, sound_state, listed_state, numbers_kept, contexts_kept}
+use Rattle.k_shown.specs.Rows.{Gives}
+use Rattle.k_shown.specs.Leaves.{Leaves}
+use Rattle.k_shown.specs.Memory.{Shows}
+use Rattle.k_shown.specs.Sound.{IsSoundWords, IsSoundNumbers, IsSoundContexts, IsSoundMemory}
+use Rattle.k_alone.specs.Alone.{Kind, Run, Makes, Tells, IsFreed}
+use Rattle.k_shown.proofs.Kept.{SameThreads, sound_memory, sound_state, listed_state, numbers_kept, contexts_kept}
 use Rattle.k_alone.proofs.Runs.{Goes}
+use Rattle.k_shown.proofs.Statuses.{same_self}
 
 replay_sound : (old : KernelState) (es : List Entry) (new : KernelState) → IsSound old → IsReplay old es new → IsSound new
 replay_sound old [] new s h = subst IsSound (sym h) s
@@ -55,7 +53,7 @@ pub record Parts {S : Type 0} (start final : Run S) (k k' : KernelState) (event 
   pub tells : Tells final.went (k'.place event.who.number).status (reply_to lines event.who event.serial)
   pub leaves : Leaves event o lines start.memory final.memory
 
-pub makes : {S : Type 0} (t : Table S) (start final : Run S) (k k' : KernelState) (event : Event) (o : Outcome) (freed : List Entry) (lines : List ReplyLine) → Goes t start final → Parts start final k k' event o freed lines → Makes t start k event
+pub makes : {S : Type 0} (t : Kind S) (start final : Run S) (k k' : KernelState) (event : Event) (o : Outcome) (freed : List Entry) (lines : List ReplyLine) → Goes t start final → Parts start final k k' event o freed lines → Makes t start k event
 makes t start final k k' event o freed lines g p =
     let s = sound_state start.memory k p.shown p.good in
     let l = listed_state start.memory k p.shown p.good in
@@ -79,29 +77,26 @@ makes t start final k k' event o freed lines g p =
     }
 
 -- one event, and the same threads
-pub makes_one : {S : Type 0} (t : Table S) (start final : Run S) (k k' : KernelState) (event : Event) (o : Outcome) (lines : List ReplyLine) → Shows start.memory k → IsSoundMemory start.memory → is_enabled k event ≡ true → outcome_of k event ≡ (k', o) → Goes t start final → final.entries ≡ record { event = event; outcome = o } ∷ [] → SameThreads start.memory final.memory → Shows final.memory k' → IsSoundWords final.memory → k'.replies ≡ k.replies ++ lines → Tells final.went (k'.place event.who.number).status (reply_to lines event.who event.serial) → Leaves event o lines start.memory final.memory → Makes t start k event
-makes_one t start final k k' event o lines h good may does g es same h' words replies tells leaves =
+pub makes_one : {S : Type 0} (t : Kind S) (start final : Run S) (k k' : KernelState) (event : Event) (o : Outcome) (lines : List ReplyLine) → Shows start.memory k → IsSoundMemory start.memory → Gives k event o k' lines final.memory → Goes t start final → final.entries ≡ record { event = event; outcome = o } ∷ [] → SameThreads start.memory final.memory → IsSoundWords final.memory → Tells final.went (k'.place event.who.number).status (reply_to lines event.who event.serial) → Leaves event o lines start.memory final.memory → Makes t start k event
+makes_one t start final k k' event o lines h good row g es same words tells leaves =
     makes t start final k k' event o [] lines g (record {
       shown = h;
       good = good;
       frees = tt;
       entries = es;
-      legal = replay_on k k' k' event o [] may does refl;
-      shows = h';
+      legal = replay_on k k' k' event o [] row.enabled row.makes refl;
+      shows = row.shows;
       size = same.size;
       room = same.room;
       words = words;
       numbers = numbers_kept start.memory final.memory same good.numbers;
       contexts = contexts_kept start.memory final.memory same good.contexts;
-      replies = replies;
+      replies = row.replies;
       tells = tells;
       leaves = leaves;
     })
 
 -- REPLIES
-
-pub same_self : (id : ThreadId) → same_id id id ≡ true
-same_self id = rw (eq-eqb id.number id.number refl, eq-eqb id.version id.version refl) refl
 
 -- the first line is the reply to its call
 pub reply_first : (me : ThreadId) (serial : ℕ) (r : Reply) (lines : List ReplyLine) → reply_to (record { id = me; serial = serial; reply = r } ∷ lines) me serial ≡ Some r
@@ -110,14 +105,3 @@ reply_first me serial r lines = rw (same_self me, eq-eqb serial serial refl) ref
 -- a line of another thread doesn't count
 pub reply_other : (me : ThreadId) (serial : ℕ) (line : ReplyLine) (lines : List ReplyLine) → same_id line.id me ≡ false → reply_to (line ∷ lines) me serial ≡ reply_to lines me serial
 reply_other me serial line lines ne = rw ne refl
-
--- the line of a sender whose message has passed
-abbrev pub sent_line : ThreadId → ℕ → Status → List ReplyLine
-sent_line who serial after = if is_run after then record { id = who; serial = serial; reply = reply.Sent } ∷ [] else []
-
-pub sent_replies : (k : KernelState) (who : ThreadId) (serial : ℕ) (after : Status) → (sent k who serial after).replies ≡ k.replies ++ sent_line who serial after
-sent_replies k who serial after = go (is_run after)
-  where
-    go : (b : Bool) → (if b then answered (with_status k who.number after) who serial reply.Sent else with_status k who.number after).replies ≡ k.replies ++ (if b then record { id = who; serial = serial; reply = reply.Sent } ∷ [] else [])
-    go true = refl
-    go false = sym (append-nil k.replies)

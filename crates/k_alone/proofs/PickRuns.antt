@@ -14,12 +14,13 @@ use Rattle.k_ids.specs.LockWords.{lock_bits}
 use Rattle.k_ids.specs.StateWords.{IsStateSpelling, IsStateWord, IsPartner, state_bits, state_word_of, partner_of, is_live}
 use Rattle.k_ids.proofs.StateSpelled.{state-read, state-whole}
 use Rattle.k_senders.specs.declared.entries.SenderEntry.{SenderEntry}
-use Rattle.k_senders.specs.Queue.{number_of}
+use Rattle.k_senders.specs.Entries.{number_of}
 use Rattle.k_locks.specs.declared.goods.Goods.TheVariants as goods
 use Rattle.k_locks.specs.declared.locks.Lock.TheVariants as lock
 use Rattle.k_locks.specs.declared.locks.WordName.TheVariants as word
 use Rattle.k_locks.specs.declared.steps.Step.TheVariants as step
 use Rattle.k_locks.specs.declared.steps.Answer.TheVariants as answer
+use Rattle.k_locks.specs.declared.steps.Told.TheVariants as told_by
 use Rattle.k_locks.specs.declared.steps.Went.TheVariants as went
 use Rattle.k_locks.specs.Shown.{shows, is_dead, is_dead_state}
 use Rattle.k_ipc.specs.declared.receive.ReceiveSection.{ReceiveSection}
@@ -29,33 +30,31 @@ use Rattle.k_ipc.specs.declared.receive.ReceiveRelease.TheVariants as release
 use Rattle.k_ipc.specs.declared.receive.ReceivePushing.TheVariants.{LoadFreed, PushFreed}
 use Rattle.k_ipc.specs.declared.receive.ReceiveLocation.TheVariants as location
 use Rattle.k_ipc.specs.Candidates.{first_admitted}
-use Rattle.k_ipc.specs.ReceiveTable.{receive_of, entry_by, after_free, stays_out, still_waits, is_pushed}
-use Rattle.k_ipc.specs.Words.{freed, on_in, sender_of, message_of}
+use Rattle.k_ipc.specs.ReceiveTable.{receive_of, after_free, stays_out, still_waits, is_pushed}
+use Rattle.k_senders.specs.Entries.{sender_of, message_of}
+use Rattle.k_ipc.specs.Words.{freed, on_in}
 use Rattle.k_model.specs.State.{is_present}
 use Rattle.k_model.specs.State.{is_dead as is_dead_status}
 use Rattle.k_model.proofs.Maps.{upd_same, upd_other}
-use Rattle.k_alone.specs.Memory.{Memory, table, with_word, with_queue}
-use Rattle.k_alone.specs.Sound.{IsPicker, IsDelivered, IsSoundMemory}
+use Rattle.k_shown.specs.Memory.{Memory, table, with_word, with_queue}
+use Rattle.k_shown.specs.Sound.{IsPicker, IsDelivered, IsSoundMemory}
 use Rattle.k_alone.specs.Alone.{Run, begun, MakesNothing}
-use Rattle.k_alone.specs.ReceiveAlone.{receive_table, pick_call}
-use Rattle.k_alone.proofs.Kept.{off_nowhere, pushed}
+use Rattle.k_alone.specs.ReceiveAlone.{receive_kind, pick_call}
+use Rattle.k_shown.proofs.Kept.{off_nowhere, pushed}
 use Rattle.k_alone.proofs.Receives.{taken_word, without_entry, words_taken}
-use Rattle.k_alone.proofs.States.{on_with, on_word}
-use Rattle.k_alone.proofs.Made.{same_self}
-use Rattle.k_alone.proofs.Runs.{Goes, arrived, can, load, on, one, won, writes}
+use Rattle.k_shown.proofs.States.{on_word}
+use Rattle.k_shown.specs.Words.{on_with}
+use Rattle.k_alone.proofs.Runs.{Goes, arrived, can, load, on, one, spelled, won, writes}
 use Rattle.k_alone.proofs.SendRuns.{read_word, put_back_same}
-use Rattle.k_alone.proofs.ReceiveRuns.{sec, receive_at, freed_is}
+use Rattle.k_alone.proofs.ReceiveRuns.{entry_by, sec, receive_at, freed_is}
+use Rattle.k_shown.proofs.Statuses.{same_self}
 
 module _ (me : ThreadId) (serial : ℕ) (m : Memory) (own : StateWord) (good : IsSoundMemory m) where
-  -- what a load is told is a spelling
-  told : (n : ℕ) → IsStateSpelling (state_bits (m.word n))
-  told n = state-whole (m.word n) (good.words.words n)
-
   -- a message has come meanwhile
-  pub runs_delivered : IsDelivered m me → MakesNothing (receive_table serial) (begun m (receive_of (pick_call me) own))
+  pub runs_delivered : IsDelivered m me → MakesNothing (receive_kind serial) (begun m (receive_of (pick_call me) own))
   unfolding lock_bits
   runs_delivered d =
-      let t = receive_table serial in
+      let t = receive_kind serial in
       let c = pick_call me in
       let q = m.queue me.number in
       let r0 = begun m (receive_of c own) in
@@ -63,8 +62,8 @@ module _ (me : ThreadId) (serial : ℕ) (m : Memory) (own : StateWord) (good : I
       let r2 = receive_at m (sec c own (location.Locked (Release release.Delivered) q) 2) [] went.On in
       let r3 = receive_at m (sec c own (location.Outside (Ended went.Waits)) 3) [] went.Waits in
       let g = on t r0 r1 r3 (record { ask = (refl, tt); tell = (refl, tt) }) refl
-      (on t r1 r2 r3 (record { ask = (refl, tt); tell = (refl, told me.number) }) (load t r1 me.number refl (good.words.words me.number) ∙ rw (read_word m me.number good, d.runs) refl)
-      (on t r2 r3 r3 (record { ask = (refl, tt); tell = (refl, tt) }) (one t r2 (step.Release (lock.Thread me.number) (goods.Senders q)) answer.Released m r3.section None [] went.Waits refl refl (put_back_same m me.number) refl refl refl refl) (arrived t r3))) in
+      (on t r1 r2 r3 (record { ask = (refl, tt); tell = (refl, spelled m good me.number) }) (load t r1 me.number refl (good.words.words me.number) ∙ rw (read_word m me.number good, d.runs) refl)
+      (on t r2 r3 r3 (record { ask = (refl, tt); tell = (refl, tt) }) (one t r2 (step.Release (lock.Thread me.number) (goods.Senders q)) (answer.Told told_by.Released) m r3.section None [] went.Waits refl refl (put_back_same m me.number) refl refl refl refl) (arrived t r3))) in
       record { steps = g.steps; final = r3; runs = g.runs; able = g.able; entries = refl; memory = refl; waits = refl }
 
   module _ (call : IsPicker m me own) where
@@ -75,10 +74,10 @@ module _ (me : ThreadId) (serial : ℕ) (m : Memory) (own : StateWord) (good : I
     caller_there = ap (λ (w : StateWord). is_dead w) call.word ∙ ap (λ (x : State). is_dead_state x) call.picks
 
     -- nobody waits to send to it
-    pub runs_settled : first_admitted None (m.queue me.number).entries ≡ None → Goes (receive_table serial) (begun m (receive_of (pick_call me) own)) (receive_at (with_word m me.number (on_with own (state.Receiving None))) (sec (pick_call me) (on_in (state.Receiving None) own) (location.Outside (Ended went.Waits)) 4) (entry_by serial (pick_call me) act.Pick outcome.Waits ∷ []) went.Waits)
+    pub runs_settled : first_admitted None (m.queue me.number).entries ≡ None → Goes (receive_kind serial) (begun m (receive_of (pick_call me) own)) (receive_at (with_word m me.number (on_with own (state.Receiving None))) (sec (pick_call me) (on_in (state.Receiving None) own) (location.Outside (Ended went.Waits)) 4) (entry_by serial (pick_call me) act.Pick outcome.Waits ∷ []) went.Waits)
     unfolding lock_bits
     runs_settled none =
-        let t = receive_table serial in
+        let t = receive_kind serial in
         let c = pick_call me in
         let q = m.queue me.number in
         let v = on_in (state.Receiving None) own in
@@ -90,9 +89,9 @@ module _ (me : ThreadId) (serial : ℕ) (m : Memory) (own : StateWord) (good : I
         let r3 = receive_at m1 (sec c v (location.Locked (Release release.Waits) q) 3) (e ∷ []) went.On in
         let r4 = receive_at m1 (sec c v (location.Outside (Ended went.Waits)) 4) (e ∷ []) went.Waits in
         on t r0 r1 r4 (record { ask = (refl, tt); tell = (refl, tt) }) refl
-        (on t r1 r2 r4 (record { ask = (refl, tt); tell = (refl, told me.number) }) (load t r1 me.number refl (good.words.words me.number) ∙ rw (read_word m me.number good, call.word, call.picks, none) refl)
-        (on t r2 r3 r4 (can t r2 answer.Won (refl, tt) (won m me.number own v call.word) (refl, tt)) (one t r2 (step.Exchange (word.State me.number) (state_bits own) (state_bits v)) answer.Won m1 r3.section (Some e) (e ∷ []) went.On refl (won m me.number own v call.word) (writes m me.number own v call.word (own_sound (state.Receiving None) refl tt)) refl refl refl refl)
-        (on t r3 r4 r4 (record { ask = (refl, tt); tell = (refl, tt) }) (one t r3 (step.Release (lock.Thread me.number) (goods.Senders q)) answer.Released m1 r4.section None (e ∷ []) went.Waits refl refl (put_back_same m1 me.number) refl refl refl refl) (arrived t r4))))
+        (on t r1 r2 r4 (record { ask = (refl, tt); tell = (refl, spelled m good me.number) }) (load t r1 me.number refl (good.words.words me.number) ∙ rw (read_word m me.number good, call.word, call.picks, none) refl)
+        (on t r2 r3 r4 (can t r2 (answer.Told told_by.Won) (refl, tt) (won m me.number own v call.word) (refl, tt)) (one t r2 (step.Exchange (word.State me.number) (state_bits own) (state_bits v)) (answer.Told told_by.Won) m1 r3.section (Some e) (e ∷ []) went.On refl (won m me.number own v call.word) (writes m me.number own v call.word (own_sound (state.Receiving None) refl tt)) refl refl refl refl)
+        (on t r3 r4 r4 (record { ask = (refl, tt); tell = (refl, tt) }) (one t r3 (step.Release (lock.Thread me.number) (goods.Senders q)) (answer.Told told_by.Released) m1 r4.section None (e ∷ []) went.Waits refl refl (put_back_same m1 me.number) refl refl refl refl) (arrived t r4))))
 
     -- The first message is taken: the sender's word, and then the caller's.
     abbrev pub picked : SenderEntry → Bool → Memory
@@ -105,10 +104,10 @@ module _ (me : ThreadId) (serial : ℕ) (m : Memory) (own : StateWord) (good : I
       waits_still : still_waits (pick_call me) e (m.word (number_of e)) ≡ true
       waits_still = rw (st, ver, eq-eqb (sender_of e).version (sender_of e).version refl, same_self me) refl
 
-      to_picked : (final : Run ReceiveSection) → first_admitted None (m.queue me.number).entries ≡ Some e → Goes (receive_table serial) (receive_at (picked e j) (sec (pick_call me) (on_in (state.Run result4.Plain) own) (location.Locked (after_free e (m.word (number_of e))) (m.queue me.number)) 5) (entry_by serial (pick_call me) act.Pick (outcome.Took (sender_of e) (message_of e)) ∷ []) went.On) final → Goes (receive_table serial) (begun m (receive_of (pick_call me) own)) final
+      to_picked : (final : Run ReceiveSection) → first_admitted None (m.queue me.number).entries ≡ Some e → Goes (receive_kind serial) (receive_at (picked e j) (sec (pick_call me) (on_in (state.Run result4.Plain) own) (location.Locked (after_free e (m.word (number_of e))) (m.queue me.number)) 5) (entry_by serial (pick_call me) act.Pick (outcome.Took (sender_of e) (message_of e)) ∷ []) went.On) final → Goes (receive_kind serial) (begun m (receive_of (pick_call me) own)) final
       unfolding lock_bits
       to_picked final some rest =
-          let t = receive_table serial in
+          let t = receive_kind serial in
           let c = pick_call me in
           let q = m.queue me.number in
           let n = number_of e in
@@ -124,15 +123,15 @@ module _ (me : ThreadId) (serial : ℕ) (m : Memory) (own : StateWord) (good : I
           let r4 = receive_at m1 (sec c own (location.Locked (EndPick e w) q) 4) (o ∷ []) went.On in
           let r5 = receive_at (picked e j) (sec c v (location.Locked (after_free e w) q) 5) (o ∷ []) went.On in
           on t r0 r1 final (record { ask = (refl, tt); tell = (refl, tt) }) refl
-          (on t r1 r2 final (record { ask = (refl, tt); tell = (refl, told me.number) }) (load t r1 me.number refl (good.words.words me.number) ∙ rw (read_word m me.number good, call.word, call.picks, some) refl)
-          (on t r2 r3 final (record { ask = (refl, tt); tell = (refl, told n) }) (load t r2 n refl (good.words.words n) ∙ rw (read_word m n good, waits_still) refl)
-          (on t r3 r4 final (can t r3 answer.Won (refl, tt) (won m n w (freed me w) refl) (refl, tt)) (one t r3 (step.Exchange (word.State n) (state_bits w) (state_bits (freed me w))) answer.Won m1 r4.section (Some o) (o ∷ []) went.On refl (won m n w (freed me w) refl) (writes m n w (freed me w) refl freed_sound ∙ ap (with_word m n) (freed_is me w j st)) refl refl refl refl)
-          (on t r4 r5 final (can t r4 answer.Won (refl, tt) (won m1 me.number own v there) (refl, tt)) (one t r4 (step.Exchange (word.State me.number) (state_bits own) (state_bits v)) answer.Won (picked e j) r5.section None (o ∷ []) went.On refl (won m1 me.number own v there) (writes m1 me.number own v there (own_sound (state.Run result4.Plain) refl tt)) refl refl refl refl)
+          (on t r1 r2 final (record { ask = (refl, tt); tell = (refl, spelled m good me.number) }) (load t r1 me.number refl (good.words.words me.number) ∙ rw (read_word m me.number good, call.word, call.picks, some) refl)
+          (on t r2 r3 final (record { ask = (refl, tt); tell = (refl, spelled m good n) }) (load t r2 n refl (good.words.words n) ∙ rw (read_word m n good, waits_still) refl)
+          (on t r3 r4 final (can t r3 (answer.Told told_by.Won) (refl, tt) (won m n w (freed me w) refl) (refl, tt)) (one t r3 (step.Exchange (word.State n) (state_bits w) (state_bits (freed me w))) (answer.Told told_by.Won) m1 r4.section (Some o) (o ∷ []) went.On refl (won m n w (freed me w) refl) (writes m n w (freed me w) refl freed_sound ∙ ap (with_word m n) (freed_is me w j st)) refl refl refl refl)
+          (on t r4 r5 final (can t r4 (answer.Told told_by.Won) (refl, tt) (won m1 me.number own v there) (refl, tt)) (one t r4 (step.Exchange (word.State me.number) (state_bits own) (state_bits v)) (answer.Told told_by.Won) (picked e j) r5.section None (o ∷ []) went.On refl (won m1 me.number own v there) (writes m1 me.number own v there (own_sound (state.Run result4.Plain) refl tt)) refl refl refl refl)
           rest))))
 
-      pub runs_picked : first_admitted None (m.queue me.number).entries ≡ Some e → stays_out (m.word (number_of e)) ≡ true → Goes (receive_table serial) (begun m (receive_of (pick_call me) own)) (receive_at (with_queue (picked e j) me.number (without_entry (m.queue me.number) e)) (sec (pick_call me) (on_in (state.Run result4.Plain) own) (location.Outside (Ended (went.Ends (reply.Got (sender_of e) (message_of e))))) 6) (entry_by serial (pick_call me) act.Pick (outcome.Took (sender_of e) (message_of e)) ∷ []) (went.Ends (reply.Got (sender_of e) (message_of e))))
+      pub runs_picked : first_admitted None (m.queue me.number).entries ≡ Some e → stays_out (m.word (number_of e)) ≡ true → Goes (receive_kind serial) (begun m (receive_of (pick_call me) own)) (receive_at (with_queue (picked e j) me.number (without_entry (m.queue me.number) e)) (sec (pick_call me) (on_in (state.Run result4.Plain) own) (location.Outside (Ended (went.Ends (reply.Got (sender_of e) (message_of e))))) 6) (entry_by serial (pick_call me) act.Pick (outcome.Took (sender_of e) (message_of e)) ∷ []) (went.Ends (reply.Got (sender_of e) (message_of e))))
       runs_picked some stays =
-          let t = receive_table serial in
+          let t = receive_kind serial in
           let c = pick_call me in
           let q = m.queue me.number in
           let v = on_in (state.Run result4.Plain) own in
@@ -143,10 +142,10 @@ module _ (me : ThreadId) (serial : ℕ) (m : Memory) (own : StateWord) (good : I
           to_picked r6 some (rw stays (on t r5 r6 r6 (record { ask = (refl, tt); tell = (refl, tt) }) refl (arrived t r6)))
 
     -- .. of a sender that was off, and is pushed
-    pub runs_picked_off : (e : SenderEntry) → (m.word (number_of e)).state ≡ state.Sending me false → (m.word (number_of e)).version ≡ (sender_of e).version → IsPartner me → is_present (table m) me ≡ true → me.number ≢ number_of e → first_admitted None (m.queue me.number).entries ≡ Some e → stays_out (m.word (number_of e)) ≡ false → Goes (receive_table serial) (begun m (receive_of (pick_call me) own)) (receive_at (with_queue (pushed (picked e false) (sender_of e) (m.word (number_of e)).priority) me.number (without_entry (m.queue me.number) e)) (sec (pick_call me) (on_in (state.Run result4.Plain) own) (location.Outside (Ended (went.Ends (reply.Got (sender_of e) (message_of e))))) 9) (entry_by serial (pick_call me) act.Pick (outcome.Took (sender_of e) (message_of e)) ∷ []) (went.Ends (reply.Got (sender_of e) (message_of e))))
+    pub runs_picked_off : (e : SenderEntry) → (m.word (number_of e)).state ≡ state.Sending me false → (m.word (number_of e)).version ≡ (sender_of e).version → IsPartner me → is_present (table m) me ≡ true → me.number ≢ number_of e → first_admitted None (m.queue me.number).entries ≡ Some e → stays_out (m.word (number_of e)) ≡ false → Goes (receive_kind serial) (begun m (receive_of (pick_call me) own)) (receive_at (with_queue (pushed (picked e false) (sender_of e) (m.word (number_of e)).priority) me.number (without_entry (m.queue me.number) e)) (sec (pick_call me) (on_in (state.Run result4.Plain) own) (location.Outside (Ended (went.Ends (reply.Got (sender_of e) (message_of e))))) 9) (entry_by serial (pick_call me) act.Pick (outcome.Took (sender_of e) (message_of e)) ∷ []) (went.Ends (reply.Got (sender_of e) (message_of e))))
     unfolding lock_bits
     runs_picked_off e st ver mine present ne some off =
-        let t = receive_table serial in
+        let t = receive_kind serial in
         let c = pick_call me in
         let q = m.queue me.number in
         let n = number_of e in

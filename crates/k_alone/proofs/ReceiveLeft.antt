@@ -1,8 +1,9 @@
 -- What a receive, or a pick, leaves of words, mails and lists.
-use Rattle.std.proofs.Common.{◌≡◌, ◌≢◌, ℕ, Bool, true, false, ◌||◌, List, [], ◌∷◌, refl, sym, ap, ◌∙◌, subst, Option, Some, inl}
+use Rattle.std.proofs.Common.{◌≡◌, ◌≢◌, ℕ, Bool, true, false, ◌||◌, List, [], ◌∷◌, refl, sym, ap, ◌∙◌, subst, Option, Some, inl, inr}
 use Rattle.std.proofs.lemmas.Bool.{false≢true, ne_eqb}
 use Rattle.std.specs.List.{AllByRecursion}
 use Rattle.k_ids.specs.declared.threads.ThreadId.{ThreadId}
+use Rattle.k_ids.specs.declared.threads.Message.{Message}
 use Rattle.k_ids.specs.declared.threads.Status.TheVariants as status
 use Rattle.k_ids.specs.declared.calls.Phase.{Phase}
 use Rattle.k_ids.specs.declared.calls.Act.{Act}
@@ -18,25 +19,37 @@ use Rattle.k_ids.specs.declared.state_word.State.{State}
 use Rattle.k_ids.specs.declared.state_word.State.TheVariants as state
 use Rattle.k_ids.specs.declared.state_word.StateWord.{StateWord}
 use Rattle.k_senders.specs.declared.entries.SenderEntry.{SenderEntry}
-use Rattle.k_senders.specs.Queue.{Queue, number_of}
+use Rattle.k_senders.specs.Entries.{number_of}
+use Rattle.k_senders.specs.Queue.{Queue}
 use Rattle.k_locks.specs.Shown.{shows}
-use Rattle.k_ipc.specs.Words.{message_of, sender_of}
+use Rattle.k_senders.specs.Entries.{message_of, sender_of}
+use Rattle.k_ipc.specs.Words.{is_joined_to}
 use Rattle.k_model.specs.Answered.{reply_to}
 use Rattle.k_model.specs.Maps.{upd}
-use Rattle.k_model.specs.State.{same_id}
+use Rattle.k_model.specs.State.{is_run, same_id}
 use Rattle.k_model.specs.Step.{status_after}
 use Rattle.k_model.proofs.Maps.{upd_cases, upd_same, upd_other}
-use Rattle.k_alone.specs.Memory.{Memory, waiting, with_word}
-use Rattle.k_alone.specs.Leaves.{IsWoken, Leaves, pushed_by, state_told, state_with}
-use Rattle.k_alone.specs.Sound.{IsSoundMemory}
-use Rattle.k_alone.proofs.Kept.{SameThreads, pushed}
-use Rattle.k_alone.proofs.Left.{Turns, all_stay, caller_turns, leaves_from, lists_kept, lists_pushed, mine_pushed, no_other, self_told, shorter, taken_turns}
-use Rattle.k_alone.proofs.Made.{reply_first, sent_line}
+use Rattle.k_shown.specs.Memory.{Memory, waiting, with_word}
+use Rattle.k_shown.specs.Leaves.{IsWoken, Leaves, moved_word, pushed_by, state_told, state_with}
+use Rattle.k_shown.specs.Sound.{IsSoundMemory}
+use Rattle.k_shown.proofs.Kept.{SameThreads, pushed}
+use Rattle.k_shown.proofs.Left.{Turns, all_stay, caller_turns, leaves_from, lists_kept, lists_pushed, mine_pushed, no_other, moved_in, shorter, woken_turns}
+use Rattle.k_alone.proofs.Made.{reply_first}
+use Rattle.k_shown.specs.Rows.{sent_line}
 use Rattle.k_alone.proofs.Receives.{receiving, taken_word, without_entry}
-use Rattle.k_alone.proofs.States.{on_with}
+use Rattle.k_shown.specs.Words.{on_with}
+use Rattle.k_shown.proofs.Statuses.{receives_runs, same_self}
 
-receives_runs : (from : Option ThreadId) → status.Receiving from ≡ status.Run → ⊥
-receives_runs from e = cc
+-- that of a sender whose message is taken
+pub taken_turns : (m : Memory) (who me : ThreadId) (t : ℕ) (j : Bool) (n : ℕ) → (m.word t).state ≡ state.Sending me j → n ≡ t → Turns m who n (taken_word j me (m.word t))
+taken_turns m who me t true n st e = inr (
+  moved_in (state.Receiving (Some me)) (m.word t) refl ∙ ap (moved_word (state.Receiving (Some me))) (ap m.word (sym e)),
+  inr (λ q. let one : status.Receiving (Some me) ≡ status.Sending me = q ∙ ap (λ (j : ℕ). shows (m.word j).state) e ∙ ap shows st in cc),
+)
+taken_turns m who me t false n st e = woken_turns m who t (state.Run result4.Sent) n refl (ap (λ (s : State). is_run (shows s)) st) e
+
+pub or_joined : (s : State) (me : ThreadId) (j on : Bool) → s ≡ state.Sending me j → (is_joined_to s || on) ≡ (j || on)
+or_joined s me j on e = ap (λ (x : State). is_joined_to x || on) e
 
 module _ (m : Memory) (me : ThreadId) (own : StateWord) (serial : ℕ) (good : IsSoundMemory m) (is : m.word me.number ≡ own) (on : own.on ≡ true) where
   abbrev event_of : Act → Event
@@ -100,12 +113,12 @@ module _ (m : Memory) (me : ThreadId) (serial : ℕ) (good : IsSoundMemory m) (e
   woken_all P false p = ((λ f. no_other me me refl f), ((λ _. p refl), tt))
 
   none_pushed : (c : Bool) → (c || (m.word (number_of e)).on) ≡ true → pushed_by m me took (got ∷ sent_line (sender_of e) sent_serial (status_after c me)) ≡ []
-  none_pushed true h = rw (self_told me) refl
-  none_pushed false h = rw (self_told me, other, h) refl
+  none_pushed true h = rw (same_self me) refl
+  none_pushed false h = rw (same_self me, other, h) refl
 
   one_pushed : (c : Bool) → c ≡ false → (m.word (number_of e)).on ≡ false → pushed_by m me took (got ∷ sent_line (sender_of e) sent_serial (status_after c me)) ≡ sender_of e ∷ []
   one_pushed true n h = absurd (false≢true (sym n))
-  one_pushed false n h = rw (self_told me, other, h) refl
+  one_pushed false n h = rw (same_self me, other, h) refl
 
   queue_left : (n : ℕ) → waiting (upd m.queue me.number (without_entry (m.queue me.number) e) n) ≡ waiting (m.queue n) → upd m.queue me.number (without_entry (m.queue me.number) e) n ≡ m.queue n
   queue_left n = upd_cases (λ (x : Queue). waiting x ≡ waiting (m.queue n) → x ≡ m.queue n) m.queue me.number (without_entry (m.queue me.number) e) n
@@ -121,7 +134,7 @@ module _ (m : Memory) (me : ThreadId) (serial : ℕ) (good : IsSoundMemory m) (e
     event = record { who = me; serial = serial; act = a }
 
     woken_word : b ≡ false → IsWoken m m' sent
-    woken_word f = record { word = word ∙ ap (λ (c : Bool). taken_word c me (m.word (number_of e))) (sym joined ∙ f); mail = ap (λ (g : ℕ → ℕ). g (number_of e)) mails }
+    woken_word f = record { word = word ∙ ap (λ (c : Bool). taken_word c me (m.word (number_of e))) (sym joined ∙ f); mail = ap (λ (g : ℕ → Message). g (number_of e)) mails }
 
     own_told : (m'.word me.number).state ≡ state_with a (reply_to replies me serial) (m.word me.number).state
     own_told = own ∙ sym (ap (λ (r : Option Reply). state_with a r (m.word me.number).state) (reply_first me serial (reply.Got (sender_of e) (message_of e)) (sent_line (sender_of e) sent_serial (status_after b me))))
@@ -132,7 +145,7 @@ module _ (m : Memory) (me : ThreadId) (serial : ℕ) (good : IsSoundMemory m) (e
     -- the sender was on, or its send was joined
     pub taken_left : (j || (m.word (number_of e)).on) ≡ true → m'.ready ≡ m.ready → Leaves event took replies m m'
     taken_left stays same =
-        leaves_from event took replies m m' t turned (woken_all (IsWoken m m') b woken_word) (λ _. own_told) (λ n _. ap (λ (g : ℕ → ℕ). g n) mails) queues_left
+        leaves_from event took replies m m' t turned (woken_all (IsWoken m m') b woken_word) (λ _. own_told) (λ n _. ap (λ (g : ℕ → Message). g n) mails) queues_left
         (lists_kept m m' (pushed_by m me took replies) (all_stay m m' good.words.ready t) same (none_pushed b (ap (λ (c : Bool). c || (m.word (number_of e)).on) joined ∙ stays)))
         (ap (λ r. r.running) same)
 
@@ -141,6 +154,6 @@ module _ (m : Memory) (me : ThreadId) (serial : ℕ) (good : IsSoundMemory m) (e
     pushed_left plain off same =
         let p = (m.word (number_of e)).priority in
         let level : (m'.word (number_of e)).priority ≡ p = ap (λ (x : StateWord). x.priority) (word ∙ ap (λ (c : Bool). taken_word c me (m.word (number_of e))) plain) in
-        leaves_from event took replies m m' t turned (woken_all (IsWoken m m') b woken_word) (λ _. own_told) (λ n _. ap (λ (g : ℕ → ℕ). g n) mails) queues_left
+        leaves_from event took replies m m' t turned (woken_all (IsWoken m m') b woken_word) (λ _. own_told) (λ n _. ap (λ (g : ℕ → Message). g n) mails) queues_left
         (lists_pushed m m' (pushed_by m me took replies) (sender_of e) p (all_stay m m' good.words.ready t) good.words.ready.count same (one_pushed b (joined ∙ plain) off) level (good.words.words (number_of e)).priority)
         (ap (λ r. r.running) same)

@@ -17,7 +17,6 @@ use Rattle.k_ids.specs.declared.state_word.Result4.TheVariants as result4
 use Rattle.k_ids.specs.declared.state_word.State.{State}
 use Rattle.k_ids.specs.declared.state_word.State.TheVariants as state
 use Rattle.k_ids.specs.declared.state_word.StateWord.{StateWord}
-use Rattle.k_ids.specs.Messages.{message_bits}
 use Rattle.k_senders.specs.declared.entries.SenderEntry.{SenderEntry}
 use Rattle.k_senders.specs.Queue.{Queue}
 use Rattle.k_locks.specs.Shown.{shows}
@@ -27,15 +26,17 @@ use Rattle.k_model.specs.Answered.{reply_to}
 use Rattle.k_model.specs.Maps.{upd}
 use Rattle.k_model.specs.State.{is_run, same_id, takes_from}
 use Rattle.k_model.proofs.Maps.{upd_cases, upd_same, upd_other}
-use Rattle.k_alone.specs.Memory.{Memory, waiting}
-use Rattle.k_alone.specs.Leaves.{IsWoken, Leaves, pushed_by, state_told, woken_by}
-use Rattle.k_alone.specs.Sound.{IsCaller, IsSoundMemory}
-use Rattle.k_alone.proofs.Kept.{SameThreads, pushed}
-use Rattle.k_alone.proofs.Left.{Turns, all_stay, caller_turns, leaves_from, lists_kept, lists_pushed, longer, no_other, self_told, woken_turns}
-use Rattle.k_alone.proofs.Made.{reply_first, reply_other, sent_line}
+use Rattle.k_shown.specs.Memory.{Memory, waiting}
+use Rattle.k_shown.specs.Leaves.{IsWoken, Leaves, pushed_by, state_told, woken_by}
+use Rattle.k_shown.specs.Sound.{IsCaller, IsSoundMemory}
+use Rattle.k_shown.proofs.Kept.{SameThreads, pushed}
+use Rattle.k_shown.proofs.Left.{Turns, all_stay, caller_turns, leaves_from, lists_kept, lists_pushed, longer, no_other, woken_turns}
+use Rattle.k_alone.proofs.Made.{reply_first, reply_other}
+use Rattle.k_shown.specs.Rows.{sent_line}
 use Rattle.k_alone.proofs.SendRuns.{state_after}
 use Rattle.k_alone.proofs.Sends.{passing, waits_at}
-use Rattle.k_alone.proofs.States.{on_with}
+use Rattle.k_shown.specs.Words.{on_with}
+use Rattle.k_shown.proofs.Statuses.{same_self}
 
 sends_runs : (to : ThreadId) → status.Sending to ≡ status.Run → ⊥
 sends_runs to e = cc
@@ -60,13 +61,13 @@ module _ (m : Memory) (me : ThreadId) (own : StateWord) (serial : ℕ) (phase : 
       (lists_kept m m' [] (all_stay m m' good.words.ready t) refl refl)
       refl
 
-takes_not : (s : Status) (who : ThreadId) (soon : Bool) → takes_from s who soon ≡ true → is_run s ≡ false
-takes_not status.Dead who soon h = refl
-takes_not status.Run who soon h = absurd (false≢true h)
-takes_not (status.Sending to) who soon h = refl
-takes_not (status.Receiving from) who soon h = refl
-takes_not status.Picking who soon h = refl
-takes_not status.Ended who soon h = refl
+takes_not : (s : Status) (who : ThreadId) (zero : Bool) → takes_from s who zero ≡ true → is_run s ≡ false
+takes_not status.Dead who zero h = refl
+takes_not status.Run who zero h = absurd (false≢true h)
+takes_not (status.Sending to) who zero h = refl
+takes_not (status.Receiving from) who zero h = refl
+takes_not status.Picking who zero h = refl
+takes_not status.Ended who zero h = refl
 
 -- THE MESSAGE PASSES
 
@@ -81,7 +82,7 @@ module _ (m : Memory) (me : ThreadId) (own : StateWord) (serial : ℕ) (phase : 
   passed_event = record { who = me; serial = serial; act = act.Call phase }
 
   woken_is : (a : Manner) → woken_by me (replies a) ≡ to ∷ []
-  woken_is manner.Plain = rw (other, self_told me) refl
+  woken_is manner.Plain = rw (other, same_self me) refl
   woken_is manner.Joined = rw other refl
   woken_is manner.Reply = rw other refl
 
@@ -95,9 +96,9 @@ module _ (m : Memory) (me : ThreadId) (own : StateWord) (serial : ℕ) (phase : 
   own_told manner.Joined old r = absurd cc
   own_told manner.Reply old r = absurd cc
 
-  module _ (a : Manner) (soon : Bool) (takes : takes_from (shows (m.word to.number).state) me soon ≡ true) where
+  module _ (a : Manner) (zero : Bool) (takes : takes_from (shows (m.word to.number).state) me zero ≡ true) where
     abbrev left : Memory
-    left = passing m me own (state_after a to) to (message_bits message)
+    left = passing m me own (state_after a to) to message
 
     woken_word : left.word to.number ≡ on_with (m.word to.number) (state.Run (result4.Delivered me))
     woken_word = upd_same (upd m.word me.number (on_with own (state_after a to))) to.number (on_with (m.word to.number) (state.Run (result4.Delivered me)))
@@ -109,16 +110,16 @@ module _ (m : Memory) (me : ThreadId) (own : StateWord) (serial : ℕ) (phase : 
     turns n =
         let s = state_after a to in
         upd_cases (Turns m me n) (upd m.word me.number (on_with own s)) to.number (on_with (m.word to.number) (state.Run (result4.Delivered me))) n
-        (λ x. woken_turns m me to.number (state.Run (result4.Delivered me)) n refl (takes_not (shows (m.word to.number).state) me soon takes) x)
+        (λ x. woken_turns m me to.number (state.Run (result4.Delivered me)) n refl (takes_not (shows (m.word to.number).state) me zero takes) x)
         (λ _. upd_cases (Turns m me n) m.word me.number (on_with own s) n (λ x. caller_turns m me own s n call.word call.on x) (λ _. inl refl))
 
-    mail_is : left.mail to.number ≡ message_bits message
-    mail_is = upd_same m.mail to.number (message_bits message)
+    mail_is : left.mail to.number ≡ message
+    mail_is = upd_same m.mail to.number message
 
     mails : (n : ℕ) → list_any (λ line. eqb line.id.number n && not (same_id line.id me)) (replies a) ≡ false → left.mail n ≡ m.mail n
     mails n none =
         let first : (eqb to.number n && not (same_id to me)) ≡ false = (or_parts _ _ none).0 in
-        upd_other m.mail to.number (message_bits message) n (λ x. false≢true (sym first ∙ rw (eq-eqb to.number n (sym x), other) refl))
+        upd_other m.mail to.number message n (λ x. false≢true (sym first ∙ rw (eq-eqb to.number n (sym x), other) refl))
 
     -- the receiver was on
     pub passed_on_left : (m.word to.number).on ≡ true → SameThreads m left → Leaves passed_event outcome.Passed (replies a) m left

@@ -1,5 +1,5 @@
 -- A victim's entry leaves a queue, and its id the ready lists.
-use Rattle.std.proofs.Common.{◌≡◌, ◌≢◌, ℕ, ◌/◌, ◌%◌, ◌^◌, Bool, true, false, not, ◌&&◌, eqb, List, [], ◌∷◌, map, length, refl, sym, ap, ◌∙◌, arith, inl, inr, ◌⊎◌}
+use Rattle.std.proofs.Common.{◌≡◌, ◌≢◌, ℕ, Bool, true, false, not, ◌&&◌, eqb, List, [], ◌∷◌, map, length, refl, sym, ap, ◌∙◌, arith, inl, inr, ◌⊎◌}
 use Rattle.std.specs.Prelude.{if◌then◌else◌}
 use Rattle.std.specs.List.{AllByRecursion, IsDistinct, filter}
 use Rattle.std.proofs.lemmas.Bool.{false≢true, eqb-true, eqb-false, eq-eqb, ne_eqb, cases_Bool, cases_lt, cond_both, and_parts, or_cases, or_left, or_right, or_parts}
@@ -8,36 +8,24 @@ use Rattle.std.proofs.lemmas.Map.Keys.{IsDistinct-head, IsDistinct-tail}
 use Rattle.k_ids.specs.declared.threads.ThreadId.{ThreadId}
 use Rattle.k_ids.specs.StateWords.{IsPartner}
 use Rattle.k_senders.specs.declared.entries.SenderEntry.{SenderEntry}
-use Rattle.k_senders.specs.Queue.{Queue, number_of, without_thread, stands}
+use Rattle.k_senders.specs.Entries.{number_of}
+use Rattle.k_senders.specs.Queue.{Queue, without_thread, stands}
 use Rattle.k_ready.specs.Lists.{IsOnceEach, has_thread, list_of}
 use Rattle.k_ready.specs.Lists.{stands as listed, without as cut}
-use Rattle.k_ready.proofs.Removed.{once_without}
-use Rattle.k_ipc.specs.Words.{sender_of}
-use Rattle.k_threads.specs.Hands.{unlinked, without_it}
-use Rattle.k_locks.specs.Threads.{who_of}
+use Rattle.k_links.proofs.Removed.{once_without}
+use Rattle.k_senders.specs.Entries.{sender_of}
+use Rattle.k_threads.specs.Goods.{unlinked, without_it}
+use Rattle.k_senders.specs.Entries.{who_of}
+use Rattle.k_senders.proofs.EntrySpelled.{sender_tested}
 use Rattle.k_model.specs.State.{Waiting, same_id}
 use Rattle.k_model.specs.Sound.{has_entry, numbers}
-use Rattle.k_model.proofs.Lists.{all_of_map, all_weaker}
-use Rattle.k_alone.specs.Memory.{waiting, waiting_of}
-use Rattle.k_alone.specs.Sound.{IsEntry}
+use Rattle.k_lists.proofs.All.{all_of_map, all_weaker}
+use Rattle.k_shown.specs.Memory.{waiting, waiting_of}
+use Rattle.k_senders.specs.Entries.{IsEntry}
 
 -- whether an entry is that of the thread
 is_who : (e : SenderEntry) (id : ThreadId) → IsEntry e → IsPartner id → eqb e.who (who_of id) ≡ same_id (sender_of e) id
-is_who e id small p = elim (cases_Bool (eqb e.who (who_of id))) [
-  | inl y ↦ let same = eqb-true e.who (who_of id) y in
-      let pn = p.number in
-      let pv = p.version in
-      let n : e.who % 64 ≡ id.number = omega arith in
-      let v : e.who / 64 % 2 ^ 20 ≡ id.version = omega arith in
-      y ∙ sym (rw (eq-eqb (e.who % 64) id.number n, eq-eqb (e.who / 64 % 2 ^ 20) id.version v) refl)
-  | inr y ↦ elim (cases_Bool (same_id (sender_of e) id)) [
-    | inr z ↦ y ∙ sym z
-    | inl z ↦ let parts = and_parts _ _ z in
-        let n = eqb-true (e.who % 64) id.number parts.0 in
-        let v = eqb-true (e.who / 64 % 2 ^ 20) id.version parts.1 in
-        absurd (eqb-false e.who (who_of id) y (omega arith))
-  ]
-]
+is_who e id small p = sender_tested e id small p.number p.version
 
 -- Without an entry of the number nothing is filtered.
 filter_none : (id : ThreadId) (ws : List Waiting) → AllByRecursion (λ w. w.0.number ≢ id.number) ws → filter (λ w. not (same_id w.0 id)) ws ≡ ws
@@ -109,7 +97,7 @@ without_it_all id es once V P h = cond_both' (has_thread id es) refl
     cond_both' false e = not_listed id es e V P h
 
 pub without_it_once : (id : ThreadId) (es : List ThreadId) → IsOnceEach es → IsOnceEach (without_it id es)
-without_it_once id es once = cond_both (has_thread id es) _ _ IsOnceEach (λ _. once_without id.number es once) (λ _. once)
+without_it_once id es once = cond_both (has_thread id es) _ _ IsOnceEach (λ _. once_without (λ (i : ThreadId). i.number) id.number es once) (λ _. once)
 
 pub listed_map : (id : ThreadId) (lists : List (List ThreadId)) (p : ℕ) → list_of (map (without_it id) lists) p ≡ without_it id (list_of lists p)
 listed_map id lists p = elim (cases_lt p (length lists)) [

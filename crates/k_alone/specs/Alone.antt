@@ -1,11 +1,10 @@
 -- A section run alone: its steps one after another, each answered by the memory, with no step of another between.
-use Rattle.std.specs.Prelude.{ℕ, zero, suc, ◌+◌, ◌<◌, ◌≡◌, ◌++◌, true, false, List, [], ◌∷◌, Option, Some, None}
+use Rattle.std.specs.Prelude.{ℕ, zero, suc, ◌<◌, ◌≡◌, ◌++◌, true, false, List, [], ◌∷◌, Option, Some, None}
 use Rattle.std.specs.List.{AllByRecursion}
 use Rattle.std.specs.Option.{option_to_list}
 use Rattle.k_ids.specs.declared.threads.ThreadId.{ThreadId}
 use Rattle.k_ids.specs.declared.threads.Status.{Status}
 use Rattle.k_ids.specs.declared.threads.Status.TheVariants as status
-use Rattle.k_ids.specs.declared.calls.Phase.{Phase}
 use Rattle.k_ids.specs.declared.calls.Act.TheVariants as act
 use Rattle.k_ids.specs.declared.calls.Outcome.{Outcome}
 use Rattle.k_ids.specs.declared.calls.Outcome.TheVariants as outcome
@@ -17,7 +16,9 @@ use Rattle.k_ids.specs.declared.lock_word.LockWord.TheVariants.{Free}
 use Rattle.k_ids.specs.StateWords.{state_bits, state_word_of}
 use Rattle.k_ids.specs.ContextWords.{context_bits, context_word_of}
 use Rattle.k_ids.specs.LockWords.{lock_bits}
+use Rattle.k_ids.specs.Messages.{message_bits, message_of_bits}
 use Rattle.k_locks.specs.declared.locks.Lock.{Lock}
+use Rattle.k_locks.specs.declared.points.Point.{Point}
 use Rattle.k_locks.specs.declared.locks.Lock.TheVariants as lock
 use Rattle.k_locks.specs.declared.locks.WordName.{WordName}
 use Rattle.k_locks.specs.declared.locks.WordName.TheVariants as word
@@ -29,19 +30,19 @@ use Rattle.k_locks.specs.declared.steps.Went.{Went}
 use Rattle.k_locks.specs.declared.steps.Went.TheVariants as went
 use Rattle.k_locks.specs.Steps.{answer_of, becomes, goods_returned, lock_taken, word_of}
 use Rattle.k_model.specs.State.{KernelState, is_picking}
-use Rattle.k_model.specs.Step.{called}
 use Rattle.k_model.specs.History.{IsReplay}
 use Rattle.k_model.specs.Answered.{is_waiting, reply_to}
-use Rattle.k_alone.specs.Memory.{Memory, Shows, with_word, with_mail, with_context, with_numbers, with_queue, with_ready}
-use Rattle.k_alone.specs.Leaves.{Leaves}
-use Rattle.k_alone.specs.Sound.{IsSoundMemory}
+use Rattle.k_shown.specs.Rows.{called_by}
+use Rattle.k_shown.specs.Memory.{Memory, Shows, with_word, with_mail, with_context, with_numbers, with_queue, with_ready}
+use Rattle.k_shown.specs.Leaves.{Leaves}
+use Rattle.k_shown.specs.Sound.{IsSoundMemory}
 
 -- ONE STEP ON A MEMORY
 
 -- What a word has. Locks are free when the section asks for them.
 abbrev pub bits_of : Memory → WordName → ℕ
 bits_of m (word.State number) = state_bits (m.word number)
-bits_of m (word.Mail number) = m.mail number
+bits_of m (word.Mail number) = message_bits (m.mail number)
 bits_of m (word.Lock lock) = lock_bits Free
 bits_of m (word.Context number) = context_bits (m.context number)
 
@@ -63,7 +64,7 @@ answered m s = answer_of s (bits_of m (word_of s)) (goods_with m (lock_taken s (
 -- A word is written. Lock words aren't kept: each lock is free again when a section asks for it.
 abbrev pub with_bits : Memory → WordName → ℕ → Memory
 with_bits m (word.State number) bits = with_word m number (state_word_of bits)
-with_bits m (word.Mail number) bits = with_mail m number bits
+with_bits m (word.Mail number) bits = with_mail m number (message_of_bits bits)
 with_bits m (word.Lock lock) bits = m
 with_bits m (word.Context number) bits = with_context m number (context_word_of bits)
 
@@ -85,10 +86,14 @@ performed m s = with_returned (with_bits m (word_of s) (becomes 0 s (bits_of m (
 
 -- A WHOLE RUN
 
+-- the entry of a point, where it is told which call of its thread it belongs to
+abbrev pub entry_at : (ℕ → ℕ) → Point → Entry
+entry_at serials p = record { event = record { who = p.who; serial = serials p.who.number; act = p.act }; outcome = p.outcome }
+
 -- What is known of a kind of section: the step that it asks for, the section once this is answered, how it goes on then, and
 -- the entry that the step appends to the history; and what the code wants before it is asked, and before it is answered. That
 -- the section is sound follows from the code's own clauses.
-pub record Table (S : Type 0) : Type 1 where
+pub record Kind (S : Type 0) : Type 1 where
   pub next : S → Step
   pub after : S → Answer → S
   pub went : S → Answer → Went
@@ -102,15 +107,15 @@ pub record Run (S : Type 0) : Type 0 where
   pub entries : List Entry  -- those appended so far
   pub went : Went  -- of the last step
 
-abbrev pub answer_at : {S : Type 0} → Table S → Run S → Answer
+abbrev pub answer_at : {S : Type 0} → Kind S → Run S → Answer
 answer_at t r = answered r.memory (t.next r.section)
 
 -- The code can make the step: it may be asked for it, and be told what comes of it.
-pub record CanStep {S : Type 0} (t : Table S) (r : Run S) : Type 0 where
+pub record CanStep {S : Type 0} (t : Kind S) (r : Run S) : Type 0 where
   pub ask : t.may_ask r.section
   pub tell : t.may_tell r.section (answer_at t r)
 
-abbrev pub stepped : {S : Type 0} → Table S → Run S → Run S
+abbrev pub stepped : {S : Type 0} → Kind S → Run S → Run S
 stepped t r = record {
   memory = performed r.memory (t.next r.section);
   section = t.after r.section (answer_at t r);
@@ -118,7 +123,7 @@ stepped t r = record {
   went = t.went r.section (answer_at t r);
 }
 
-unfoldable pub run : {S : Type 0} → Table S → ℕ → Run S → Run S
+unfoldable pub run : {S : Type 0} → Kind S → ℕ → Run S → Run S
 run t zero r = r
 run t (suc n) r = run t n (stepped t r)
 
@@ -139,17 +144,9 @@ Tells (went.Pushed priority) s reply = ⊥
 
 -- THE EVENT
 
--- a thread's next call
-abbrev pub call_of : KernelState → ThreadId → Phase → Event
-call_of k me p = record { who = me; serial = (k.place me.number).serial + 1; act = act.Call p }
-
--- the pick that goes on with a thread's last call
-abbrev pub pick_of : KernelState → ThreadId → Event
-pick_of k me = record { who = me; serial = (k.place me.number).serial; act = act.Pick }
-
 -- each thread's current call, where this one makes its next
 abbrev pub current : KernelState → ThreadId → ℕ → ℕ
-current k me number = ((called k me ((k.place me.number).serial + 1)).place number).serial
+current k me number = ((called_by k me).place number).serial
 
 -- a thread is freed, since the one that it waits for isn't there
 pub record IsFreed (e : Entry) : Type 0 where
@@ -159,7 +156,7 @@ pub record IsFreed (e : Entry) : Type 0 where
 -- The code can make each step of the run. It appends exactly this event, and then those of threads that it frees; they are
 -- legal, one after another. The memory then shows the state that they leave, and is sound again; the section has ended with the
 -- reply that this state has; and no word, mail or list has changed but as `Leaves` tells.
-pub record Makes {S : Type 0} (t : Table S) (start : Run S) (k : KernelState) (event : Event) : Type 0 where
+pub record Makes {S : Type 0} (t : Kind S) (start : Run S) (k : KernelState) (event : Event) : Type 0 where
   pub steps : ℕ
   pub final : Run S
   pub runs : run t steps start ≡ final
@@ -179,7 +176,7 @@ pub record Makes {S : Type 0} (t : Table S) (start : Run S) (k : KernelState) (e
 
 -- The code can make each step of the run. It appends nothing and leaves the memory as it was; its caller waits, and will see
 -- that a message has come.
-pub record MakesNothing {S : Type 0} (t : Table S) (start : Run S) : Type 0 where
+pub record MakesNothing {S : Type 0} (t : Kind S) (start : Run S) : Type 0 where
   pub steps : ℕ
   pub final : Run S
   pub runs : run t steps start ≡ final

@@ -1,9 +1,5 @@
-pub mod Memory
-pub mod Sound
-pub mod Leaves
 pub mod Alone
 pub mod CreateAlone
 pub mod DestroyAlone
 pub mod SendAlone
 pub mod ReceiveAlone
-pub mod Boot

@@ -1,11 +1,9 @@
 //! What a section of the kernel does when it runs alone: exactly what the sequential specification says that its call means.
 //!
-//! It has no code. `specs/Memory` has the words and the guarded data by name, and which state of the specification they show;
-//! `specs/Sound` what holds of a memory while no section is half done; `specs/Alone` a run of a section, each step
-//! answered by the memory, with no step of another between, and what such a run comes to; `specs/Leaves` what it leaves of
-//! words, mails and lists; `specs/SendAlone`, `ReceiveAlone`, `CreateAlone` and `DestroyAlone` the sections that run, by the
-//! tables of their own libraries; `specs/Boot` the memory in which a kernel begins. What a step makes of a word, and what goes
-//! back with it, are the definitions of k_locks.
+//! It has no code. The memory that a section works on, what it shows, and when it is sound stand in k_shown. `specs/Alone` has a
+//! run of a section, each step answered by the memory, with no step of another between, and what such a run comes to;
+//! `specs/SendAlone`, `ReceiveAlone`, `CreateAlone` and `DestroyAlone` the sections that run, by the tables of their own
+//! libraries. What a step makes of a word, and what goes back with it, are the definitions of k_locks.
 //!
 //! The functions do nothing: each has a law as its contract. For each kind of call, from a sound memory: at each step the
 //! conditions hold on which the code can be asked for it and told its answer; the section ends, it appends exactly its own
@@ -18,7 +16,7 @@
 mod laws;
 
 pub use laws::{
-    a_boot_memory_is_sound, a_caller_may_begin_its_section, a_create_alone_makes_its_event,
+    a_caller_may_begin_its_section, a_create_alone_makes_its_event,
     a_destroy_alone_makes_its_event, a_passed_message_is_delivered, a_pick_alone_makes_its_event,
     a_pick_of_a_delivered_caller_makes_nothing, a_receive_alone_makes_its_event,
     a_send_alone_makes_its_event,

@@ -1,5 +1,5 @@
 -- What holds of a memory while no section is half done.
-use Rattle.std.specs.Prelude.{ℕ, ◌≡◌, ◌≢◌, ◌≤◌, ◌<◌, ◌^◌, true, false, not, Some, length}
+use Rattle.std.specs.Prelude.{ℕ, ◌≡◌, ◌≢◌, ◌≤◌, ◌<◌, true, false, not, Some, length}
 use Rattle.std.specs.List.{AllByRecursion}
 use Rattle.k_ids.specs.declared.threads.ThreadId.{ThreadId}
 use Rattle.k_ids.specs.declared.threads.Status.TheVariants as status
@@ -8,7 +8,7 @@ use Rattle.k_ids.specs.declared.state_word.Result4.TheVariants as result4
 use Rattle.k_ids.specs.declared.state_word.State.TheVariants as state
 use Rattle.k_ids.specs.declared.state_word.StateWord.{StateWord}
 use Rattle.k_ids.specs.StateWords.{IsStateWord}
-use Rattle.k_senders.specs.declared.entries.SenderEntry.{SenderEntry}
+use Rattle.k_senders.specs.Entries.{IsEntry}
 use Rattle.k_ready.specs.Lists.{IsOnceEach, list_of}
 use Rattle.k_ids.specs.declared.context_word.ContextWord.{ContextWord}
 use Rattle.k_ids.specs.declared.context_word.ContextWord.TheVariants.{Empty, Clean, Holds, Taken}
@@ -16,7 +16,7 @@ use Rattle.k_locks.specs.Numbers.{version_at}
 use Rattle.k_locks.specs.Numbers.{is_present as is_there}
 use Rattle.k_model.specs.State.{is_dead, is_present}
 use Rattle.k_model.specs.Sound.{IsSound, IsListed}
-use Rattle.k_alone.specs.Memory.{Memory, table}
+use Rattle.k_shown.specs.Memory.{Memory, table}
 use Rattle.k_locks.specs.Shown.{shows}
 
 -- Who stands in the list of a priority has that priority, is there, and is on.
@@ -32,10 +32,6 @@ pub record IsSoundReady (m : Memory) : Type 0 where
   pub ready : (priority : ℕ) → AllByRecursion (IsReady m priority) (list_of m.ready.lists priority)
   pub once : (priority : ℕ) → IsOnceEach (list_of m.ready.lists priority)
 
--- an entry of a queue names a thread: a version below 2^20 times 64, plus a number below 64
-abbrev pub IsEntry : SenderEntry → Type 0
-IsEntry e = e.who < 2 ^ 26
-
 -- Each word has a spelling, and so has each entry of a queue. Who waits for a thread waits for one that is there, and nobody
 -- waits to send to itself. The ready lists are sound.
 pub record IsSoundWords (m : Memory) : Type 0 where
@@ -47,8 +43,8 @@ pub record IsSoundWords (m : Memory) : Type 0 where
 
 -- The list of numbers says which numbers have a thread, and their versions.
 pub record IsSoundNumbers (m : Memory) : Type 0 where
-  pub count : m.numbers.count ≡ m.size
-  pub versions : length m.numbers.versions ≡ 64
+  pub versions : length m.numbers.versions ≡ m.size
+  pub presences : length m.numbers.present ≡ m.size
   pub version : (n : ℕ) → n < m.size → version_at m.numbers n ≡ (m.word n).version
   pub present : (n : ℕ) → n < m.size → is_there m.numbers n ≡ not (is_dead (shows (m.word n).state))
 

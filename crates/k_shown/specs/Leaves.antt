@@ -19,14 +19,13 @@ use Rattle.k_ids.specs.declared.state_word.Result4.TheVariants as result4
 use Rattle.k_ids.specs.declared.state_word.State.{State}
 use Rattle.k_ids.specs.declared.state_word.State.TheVariants as state
 use Rattle.k_ids.specs.declared.state_word.StateWord.{StateWord}
-use Rattle.k_ids.specs.Messages.{message_bits}
+use Rattle.k_ids.specs.declared.threads.Message.{Message}
 use Rattle.k_ready.specs.Lists.{list_of}
 use Rattle.k_locks.specs.Shown.{shows}
-use Rattle.k_ipc.specs.Words.{on_in}
-use Rattle.k_threads.specs.Words.{created_word}
 use Rattle.k_model.specs.Answered.{reply_to}
 use Rattle.k_model.specs.State.{is_dead, is_present, is_run, same_id}
-use Rattle.k_alone.specs.Memory.{Memory, table, waiting}
+use Rattle.k_shown.specs.Words.{new_word, on_with}
+use Rattle.k_shown.specs.Memory.{Memory, table, waiting}
 
 -- WORDS
 
@@ -42,13 +41,13 @@ result_with reply.Gone = result4.Gone
 result_with r = result4.Plain
 
 -- and its mail word
-abbrev pub mail_with : Reply → ℕ → ℕ
-mail_with (reply.Got from message) bits = message_bits message
-mail_with r bits = bits
+abbrev pub mail_with : Reply → Message → Message
+mail_with (reply.Got from message) old = message
+mail_with r old = old
 
 -- A thread that has this reply runs.
 pub record IsWoken (m m' : Memory) (line : ReplyLine) : Type 0 where
-  pub word : m'.word line.id.number ≡ on_in (state.Run (result_with line.reply)) (m.word line.id.number)
+  pub word : m'.word line.id.number ≡ on_with (m.word line.id.number) (state.Run (result_with line.reply))
   pub mail : m'.mail line.id.number ≡ mail_with line.reply (m.mail line.id.number)
 
 -- the state of a caller that runs at the end, by what it does and the reply to it
@@ -88,7 +87,7 @@ pub record Leaves (event : Event) (o : Outcome) (lines : List ReplyLine) (m m' :
   -- whose status is the same, and isn't the caller, has the same word
   pub same : (n : ℕ) → n ≢ event.who.number → shows (m'.word n).state ≡ shows (m.word n).state → m'.word n ≡ m.word n
   -- a new thread
-  pub made : (n : ℕ) → is_dead (shows (m.word n).state) ≡ true → is_dead (shows (m'.word n).state) ≡ false → (m'.word n ≡ created_word (m'.word n).version (level_of event.act)) × (m'.context n ≡ Clean (m'.word n).version)
+  pub made : (n : ℕ) → is_dead (shows (m.word n).state) ≡ true → is_dead (shows (m'.word n).state) ≡ false → (m'.word n ≡ new_word (m'.word n).version (level_of event.act)) × (m'.context n ≡ Clean (m'.word n).version)
   -- each other thread that has a reply
   pub woken : AllByRecursion (λ line. same_id line.id event.who ≡ false → IsWoken m m' line) lines
   -- the caller

@@ -1,9 +1,8 @@
 -- The memory in which a kernel begins is sound.
-use Rattle.std.proofs.Common.{◌≡◌, ℕ, zero, suc, ◌<◌, ◌≤◌, true, false, not, eqb, List, [], ◌∷◌, ◌++◌, length, get_or, replicate, refl, sym, ap, ◌∙◌, subst, arith, Some, inl, inr, ◌⊎◌}
-use Rattle.std.proofs.lemmas.Bool.{false≢true, lt-ltb, le-ltb, cases_lt, cases_eq, ne_eqb, or_from}
-use Rattle.std.proofs.lemmas.List.{length-set, length-append, length-replicate, get_or-replicate, get_or_past, get_or_append_left, get_or_push}
-use Rattle.std.proofs.lemmas.Nat.Bits.{bit_at-zero, bit_at_set_same, bit_at_set_other}
-use Rattle.std.specs.Int.{bit_at, w64}
+use Rattle.std.proofs.Common.{◌≡◌, ℕ, zero, suc, ◌<◌, ◌≤◌, true, false, not, ltb, List, [], ◌∷◌, ◌++◌, length, get_or, replicate, refl, sym, ap, ◌∙◌, subst, arith, Some, inl, inr, ◌⊎◌}
+use Rattle.std.proofs.lemmas.Bool.{false≢true, lt-ltb, le-ltb, cases_lt, ne_eqb, or_from}
+use Rattle.std.proofs.lemmas.List.{length-set, length-replicate, get_or-replicate, get_or_past}
+use Rattle.std.proofs.lemmas.List.FromFn.{get_or-map-range_with_len, length-map-range_with_len}
 use Rattle.std.specs.List.{AllByRecursion}
 use Rattle.k_ids.specs.declared.threads.ThreadId.{ThreadId}
 use Rattle.k_ids.specs.declared.threads.Status.TheVariants as status
@@ -12,48 +11,22 @@ use Rattle.k_ids.specs.declared.state_word.Result4.TheVariants as result4
 use Rattle.k_ids.specs.declared.state_word.StateWord.{StateWord}
 use Rattle.k_ids.specs.StateWords.{IsStateWord}
 use Rattle.k_ready.specs.Lists.{IsOnceEach, list_of, stands}
-use Rattle.k_ready.proofs.Appended.{stands_append}
+use Rattle.k_links.proofs.Appended.{stands_append}
 use Rattle.k_locks.specs.Numbers.{is_present as is_there}
 use Rattle.k_locks.specs.Shown.{shows}
-use Rattle.k_threads.specs.Hands.{pushed}
-use Rattle.k_threads.specs.Words.{created_word, dead_word}
+use Rattle.k_locks.specs.Hands.{pushed}
+use Rattle.k_shown.specs.Words.{dead_word, new_word}
 use Rattle.k_model.specs.State.{is_dead, nowhere}
 use Rattle.k_model.specs.Step.{last_version}
 use Rattle.k_model.specs.History.{opened, opening_place, new_place, dead_place}
-use Rattle.k_model.proofs.Lists.{all_at}
+use Rattle.k_lists.proofs.All.{all_at}
 use Rattle.k_model.proofs.Listed.{opened-listed}
 use Rattle.k_model.proofs.Opening.{opened-sound}
-use Rattle.k_alone.specs.Memory.{Memory, Shows, with_ready}
-use Rattle.k_alone.specs.Sound.{IsCaller, IsContext, IsReady, IsSoundMemory, IsSoundWords}
-use Rattle.k_alone.specs.Boot.{IsOpening, bits_below, boot, boot_context, boot_ready, boot_word, each_below}
-use Rattle.k_alone.proofs.Shown.{Fits, shows_from}
-use Rattle.k_alone.proofs.Kept.{list_cases, pushed_words, sound_memory}
-
-length_each : (f : ℕ → ℕ) (n : ℕ) → length (each_below f n) ≡ n
-unfolding each_below
-length_each f zero = refl
-length_each f (suc n) = length-append (each_below f n) (f n ∷ []) ∙ (let r = length_each f n in omega (arith, r))
-
-each_at : (f : ℕ → ℕ) (n i : ℕ) → i < n → get_or (each_below f n) i 0 ≡ f i
-unfolding each_below
-each_at f zero i l = absurd (omega arith)
-each_at f (suc n) i l = elim (cases_eq i n) [
-  | inl e ↦ get_or_push (each_below f n) (f n) 0 i (length_each f n ∙ sym e) ∙ sym (ap f e)
-  | inr ne ↦ let small : i < n = omega (arith, l, ne) in get_or_append_left (each_below f n) (f n ∷ []) 0 i (let r = length_each f n in omega (arith, r, small)) ∙ each_at f n i small
-]
-
-bit_below : (n i : ℕ) → n ≤ 64 → i < n → bit_at (bits_below n) i ≡ 1
-unfolding bits_below
-bit_below zero i few l = absurd (omega arith)
-bit_below (suc n) i few l = elim (cases_eq i n) [
-  | inl e ↦ ap (bit_at (bits_below (suc n))) e ∙ bit_at_set_same w64 (bits_below n) n (omega arith)
-  | inr ne ↦ bit_at_set_other w64 (bits_below n) n (omega arith) i ne ∙ bit_below n i (omega arith) (omega (arith, l, ne))
-]
-
-bit_past : (n i : ℕ) → n ≤ 64 → n ≤ i → bit_at (bits_below n) i ≡ 0
-unfolding bits_below
-bit_past zero i few l = bit_at-zero i
-bit_past (suc n) i few l = bit_at_set_other w64 (bits_below n) n (omega arith) i (omega (arith, l)) ∙ bit_past n i (omega arith) (omega (arith, l))
+use Rattle.k_shown.specs.Memory.{Memory, Shows, with_ready}
+use Rattle.k_shown.specs.Sound.{IsCaller, IsContext, IsReady, IsSoundMemory, IsSoundWords}
+use Rattle.k_shown.specs.Boot.{IsOpening, boot, boot_context, boot_ready, boot_word}
+use Rattle.k_shown.proofs.Shown.{Fits, shows_from}
+use Rattle.k_shown.proofs.Kept.{list_cases, pushed_words, sound_memory}
 
 ready_count : (priority : ℕ → ℕ) (n : ℕ) → length (boot_ready priority n).lists ≡ 64
 unfolding boot_ready
@@ -70,11 +43,11 @@ ready_none priority zero t small l p = ap (stands t) (elim (cases_lt p 64) [ inl
 ready_none priority (suc n) t small l p =
     let r = boot_ready priority n in
     list_cases (λ (ids : List ThreadId). stands t ids ≡ false) r.lists (priority n) (list_of r.lists (priority n) ++ record { number = n; version = 1 } ∷ []) p (let c = ready_count priority n in let s = small n (omega arith) in omega (arith, c, s))
-    (λ _. stands_append t (list_of r.lists (priority n)) (record { number = n; version = 1 }) ∙ or_from _ _ (ready_none priority n t (λ i q. small i (omega (arith, q))) (omega (arith, l)) (priority n)) (ne_eqb n t (omega (arith, l))))
+    (λ _. stands_append (λ (i : ThreadId). i.number) t (list_of r.lists (priority n)) (record { number = n; version = 1 }) ∙ or_from _ _ (ready_none priority n t (λ i q. small i (omega (arith, q))) (omega (arith, l)) (priority n)) (ne_eqb n t (omega (arith, l))))
     (λ _. ready_none priority n t (λ i q. small i (omega (arith, q))) (omega (arith, l)) p)
 
 module _ (versions : List ℕ) (threads : ℕ) (priority : ℕ → ℕ) (o : IsOpening versions threads priority) where
-  word_new : (n : ℕ) → n < threads → boot_word versions threads priority n ≡ created_word 1 (priority n)
+  word_new : (n : ℕ) → n < threads → boot_word versions threads priority n ≡ new_word 1 (priority n)
   word_new n l = rw (lt-ltb n threads l) refl
 
   word_dead : (n : ℕ) → threads ≤ n → boot_word versions threads priority n ≡ dead_word (get_or versions n 0)
@@ -161,11 +134,10 @@ module _ (versions : List ℕ) (threads : ℕ) (priority : ℕ → ℕ) (o : IsO
 
   there_boot : (n : ℕ) → n < length versions → is_there (boot versions threads priority).numbers n ≡ not (is_dead (shows (boot_word versions threads priority n).state))
   there_boot n inside =
-      let many = o.enough in
-      let size = o.size in
-      elim (cases_lt n threads) [
-        | inl l ↦ ap (λ (b : ℕ). eqb b 1) (bit_below threads n (omega (arith, many, size)) l) ∙ sym (ap (λ (w : StateWord). not (is_dead (shows w.state))) (word_new n l))
-        | inr l ↦ ap (λ (b : ℕ). eqb b 1) (bit_past threads n (omega (arith, many, size)) l) ∙ sym (ap (λ (w : StateWord). not (is_dead (shows w.state))) (word_dead n l))
+      get_or-map-range_with_len (λ i. ltb i threads) 0 (length versions) n n false inside (omega arith)
+      ∙ elim (cases_lt n threads) [
+        | inl l ↦ lt-ltb n threads l ∙ sym (ap (λ (w : StateWord). not (is_dead (shows w.state))) (word_new n l))
+        | inr l ↦ le-ltb n threads l ∙ sym (ap (λ (w : StateWord). not (is_dead (shows w.state))) (word_dead n l))
       ]
 
   context_there : (n : ℕ) → is_dead (shows (boot_word versions threads priority n).state) ≡ false → IsContext (boot_word versions threads priority n).version (boot_context threads n)
@@ -182,12 +154,11 @@ module _ (versions : List ℕ) (threads : ℕ) (priority : ℕ → ℕ) (o : IsO
 
   pub sound_boot : IsSoundMemory (boot versions threads priority)
   sound_boot =
-      let size = o.size in
       sound_memory (boot versions threads priority) (opened versions threads) shows_boot o.size (λ n l. refl) (words_at threads (omega arith))
       (record {
-        count = refl;
-        versions = length_each (λ n. (boot_word versions threads priority n).version) 64;
-        version = λ n l. each_at (λ n. (boot_word versions threads priority n).version) 64 n (omega (arith, l, size));
+        versions = length-map-range_with_len (λ n. (boot_word versions threads priority n).version) 0 (length versions);
+        presences = length-map-range_with_len (λ n. ltb n threads) 0 (length versions);
+        version = λ n l. get_or-map-range_with_len (λ n. (boot_word versions threads priority n).version) 0 (length versions) n n 0 l (omega arith);
         present = there_boot;
       })
       (record { there = context_there; none = context_none })

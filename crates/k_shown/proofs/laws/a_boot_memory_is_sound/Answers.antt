@@ -1,5 +1,5 @@
-use Rattle.k_alone.proofs.Booted.{runs_boot, shows_boot, sound_boot}
-use Rattle.k_alone.proofs.laws.a_boot_memory_is_sound.Goals as goal
+use Rattle.k_shown.proofs.Booted.{runs_boot, shows_boot, sound_boot}
+use Rattle.k_shown.proofs.laws.a_boot_memory_is_sound.Goals as goal
 
 pub returns-clause-sound : goal.returns-clause-sound
 returns-clause-sound c = sound_boot

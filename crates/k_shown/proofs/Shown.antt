@@ -7,13 +7,12 @@ use Rattle.k_ids.specs.declared.threads.Status.TheVariants as status
 use Rattle.k_ids.specs.declared.calls.Reply.{Reply}
 use Rattle.k_ids.specs.declared.state_word.StateWord.{StateWord}
 use Rattle.k_senders.specs.Queue.{Queue}
-use Rattle.k_ready.specs.Lists.{Ready}
 use Rattle.k_model.specs.State.{KernelState, Waiting, Place, with_place, with_status, answered, id_of, is_present, is_dead}
 use Rattle.k_model.specs.Step.{called}
 use Rattle.k_model.specs.Sound.{IsSound, IsListed, IsQueued, numbers, has_entry}
 use Rattle.k_model.proofs.Maps.{upd_tells, upd_cases}
-use Rattle.k_model.proofs.Lists.{all_weaker}
-use Rattle.k_alone.specs.Memory.{Memory, Shows, joined_of, waiting, table, with_word, with_mail, with_queue, with_ready}
+use Rattle.k_lists.proofs.All.{all_weaker}
+use Rattle.k_shown.specs.Memory.{Memory, Shows, joined_of, waiting, table, with_word, with_queue}
 use Rattle.k_locks.specs.Shown.{shows}
 
 -- a place of the state shows a word and a queue
@@ -53,17 +52,6 @@ shows_word m k n w p f h =
       waiting = grind (arith, upd_tells, h.waiting t);
     })
 
--- a place, a word and a queue change
-pub shows_both : (m : Memory) (k : KernelState) (n : ℕ) (w : StateWord) (q : Queue) (p : Place) → Fits p w q → Shows m k → Shows (with_queue (with_word m n w) n q) (with_place k n p)
-shows_both m k n w q p f h =
-    shows_from (with_queue (with_word m n w) n q) (with_place k n p) h.size
-    (λ t. record {
-      version = grind (arith, upd_tells, h.version t);
-      status = grind (arith, upd_tells, h.status t);
-      joined = grind (arith, upd_tells, h.joined t);
-      waiting = grind (arith, upd_tells, h.waiting t);
-    })
-
 -- a place and a queue change
 pub shows_queue : (m : Memory) (k : KernelState) (n : ℕ) (q : Queue) (p : Place) → Fits p (m.word n) q → Shows m k → Shows (with_queue m n q) (with_place k n p)
 shows_queue m k n q p f h =
@@ -74,12 +62,6 @@ shows_queue m k n q p f h =
       joined = grind (arith, upd_tells, h.joined t);
       waiting = grind (arith, upd_tells, h.waiting t);
     })
-
-pub shows_mail : (m : Memory) (k : KernelState) (n bits : ℕ) → Shows m k → Shows (with_mail m n bits) k
-shows_mail m k n bits h = record { size = h.size; version = h.version; status = h.status; joined = h.joined; waiting = h.waiting }
-
-pub shows_ready : (m : Memory) (k : KernelState) (r : Ready) → Shows m k → Shows (with_ready m r) k
-shows_ready m k r h = record { size = h.size; version = h.version; status = h.status; joined = h.joined; waiting = h.waiting }
 
 -- a thread takes a status other than sending
 pub shows_status : (m : Memory) (k : KernelState) (n : ℕ) (w : StateWord) (s : Status) → w.version ≡ (m.word n).version → shows w.state ≡ s → joined_of w.state ≡ false → Shows m k → Shows (with_word m n w) (with_status k n s)

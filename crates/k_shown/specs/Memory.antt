@@ -8,19 +8,20 @@ use Rattle.k_ids.specs.declared.context_word.ContextWord.{ContextWord}
 use Rattle.k_senders.specs.declared.entries.SenderEntry.{SenderEntry}
 use Rattle.k_senders.specs.Queue.{Queue}
 use Rattle.k_ready.specs.Lists.{Ready}
-use Rattle.k_locks.specs.declared.numbers.Numbers.{Numbers}
+use Rattle.k_locks.specs.Numbers.{ThreadNumbers}
 use Rattle.k_locks.specs.Shown.{shows}
-use Rattle.k_ipc.specs.Words.{message_of, sender_of}
+use Rattle.k_ids.specs.declared.threads.Message.{Message}
+use Rattle.k_senders.specs.Entries.{message_of, sender_of}
 use Rattle.k_model.specs.Maps.{upd}
 use Rattle.k_model.specs.State.{KernelState, Waiting, Place}
 
--- State words and context words are decoded. What is by thread number is a total map.
+-- State words, mail words and context words are decoded. What is by thread number is a total map.
 pub record Memory : Type 0 where
   pub size : ℕ  -- how many numbers the table has
   pub word : ℕ → StateWord
-  pub mail : ℕ → ℕ
+  pub mail : ℕ → Message
   pub context : ℕ → ContextWord
-  pub numbers : Numbers  -- which numbers have a thread
+  pub numbers : ThreadNumbers  -- which numbers have a thread
   pub queue : ℕ → Queue  -- who waits to send to the thread
   pub ready : Ready  -- who runs and waits for the processor
 
@@ -29,13 +30,13 @@ pub record Memory : Type 0 where
 abbrev pub with_word : Memory → ℕ → StateWord → Memory
 with_word m number w = record m { word = upd m.word number w }
 
-abbrev pub with_mail : Memory → ℕ → ℕ → Memory
-with_mail m number bits = record m { mail = upd m.mail number bits }
+abbrev pub with_mail : Memory → ℕ → Message → Memory
+with_mail m number message = record m { mail = upd m.mail number message }
 
 abbrev pub with_context : Memory → ℕ → ContextWord → Memory
 with_context m number w = record m { context = upd m.context number w }
 
-abbrev pub with_numbers : Memory → Numbers → Memory
+abbrev pub with_numbers : Memory → ThreadNumbers → Memory
 with_numbers m ns = record m { numbers = ns }
 
 abbrev pub with_queue : Memory → ℕ → Queue → Memory

@@ -9,15 +9,15 @@ use Rattle.k_ids.specs.declared.threads.ThreadId.{ThreadId}
 use Rattle.k_ids.specs.declared.threads.Status.TheVariants as status
 use Rattle.k_ids.specs.declared.state_word.StateWord.{StateWord}
 use Rattle.k_senders.specs.declared.entries.SenderEntry.{SenderEntry}
-use Rattle.k_senders.specs.Queue.{number_of, stands}
+use Rattle.k_senders.specs.Entries.{number_of}
+use Rattle.k_senders.specs.Queue.{stands}
 use Rattle.k_locks.specs.Shown.{shows}
-use Rattle.k_ipc.specs.Hands.{IsRoom}
 use Rattle.k_model.specs.State.{KernelState, Waiting, id_of, is_dead, is_present}
 use Rattle.k_model.specs.Sound.{IsSound, numbers}
-use Rattle.k_model.proofs.Lists.{all_map, all_weaker}
+use Rattle.k_lists.proofs.All.{all_map, all_weaker}
 use Rattle.k_model.proofs.Sound.{StandsNowhere, inside_from, nowhere_from, senders_inside}
-use Rattle.k_alone.specs.Memory.{Memory, table, waiting_of}
-use Rattle.k_alone.specs.Sound.{IsCaller, IsSoundMemory}
+use Rattle.k_shown.specs.Memory.{Memory, table, waiting_of}
+use Rattle.k_shown.specs.Sound.{IsCaller, IsSoundMemory}
 
 -- who isn't dead has a number of the table
 pub alive_inside : (m : Memory) (n : ℕ) → IsSoundMemory m → is_dead (shows (m.word n).state) ≡ false → n < m.size
@@ -57,14 +57,16 @@ module _ (m : Memory) (me : ThreadId) (own : StateWord) (good : IsSoundMemory m)
   nowhere : StandsNowhere (table m) me.number
   nowhere = nowhere_from (table m) me.number good.lists (λ t e. let no : status.Run ≡ status.Sending (id_of (table m) t) = sym caller_runs ∙ e in cc)
 
-  pub room_for : (n : ℕ) → n < m.size → IsRoom me (m.queue n)
-  room_for n inside =
-      let mine : me.number < m.size = alive_inside m me.number good (ap is_dead caller_runs) in
+  pub caller_inside : me.number < m.size
+  caller_inside = alive_inside m me.number good (ap is_dead caller_runs)
+
+  -- Each queue of the table has room for an entry of the caller, and has none yet.
+  pub queue_short : (n : ℕ) → n < m.size → length (m.queue n).entries < (m.queue n).room
+  queue_short n inside =
       let room = good.room n inside in
-      let short = shorter (table m) me.number n mine nowhere good.lists in
+      let short = shorter (table m) me.number n caller_inside nowhere good.lists in
       let same : length (map waiting_of (m.queue n).entries) ≡ length (m.queue n).entries = length-map (m.queue n).entries waiting_of in
-      record {
-        few = omega (arith, short, same, room);
-        inside = omega (arith, mine, room);
-        fresh = lacks_stands me.number (m.queue n).entries (nowhere n);
-      }
+      omega (arith, short, same, room)
+
+  pub caller_fresh : (n : ℕ) → stands me.number (m.queue n).entries ≡ false
+  caller_fresh n = lacks_stands me.number (m.queue n).entries (nowhere n)

@@ -4,27 +4,30 @@ use Rattle.std.proofs.lemmas.Bool.{false≢true, cases_eq, ne_eqb, cond_both}
 use Rattle.std.proofs.lemmas.List.{get_or-set_same, get_or-set_other, length-set}
 use Rattle.std.specs.List.{AllByRecursion}
 use Rattle.k_ids.specs.declared.threads.ThreadId.{ThreadId}
+use Rattle.k_ids.specs.declared.threads.Message.{Message}
 use Rattle.k_ids.specs.declared.threads.Status.TheVariants as status
 use Rattle.k_ids.specs.declared.state_word.StateWord.{StateWord}
 use Rattle.k_ids.specs.StateWords.{IsStateWord}
 use Rattle.k_senders.specs.declared.entries.SenderEntry.{SenderEntry}
 use Rattle.k_senders.specs.Queue.{Queue, without}
-use Rattle.k_senders.specs.Queue.{number_of as number_of_entry}
-use Rattle.k_ready.specs.Lists.{IsOnceEach, list_of, stands, with_list}
-use Rattle.k_ready.proofs.Appended.{once_append}
+use Rattle.k_senders.specs.Entries.{IsEntry}
+use Rattle.k_senders.specs.Entries.{number_of as number_of_entry}
+use Rattle.k_ready.specs.Lists.{IsOnceEach, list_of, stands}
+use Rattle.k_links.proofs.Appended.{once_append}
 use Rattle.k_ids.specs.declared.context_word.ContextWord.{ContextWord}
-use Rattle.k_locks.specs.declared.numbers.Numbers.{Numbers}
+use Rattle.k_locks.specs.Numbers.{ThreadNumbers}
 use Rattle.k_locks.specs.Numbers.{version_at}
 use Rattle.k_locks.specs.Numbers.{is_present as is_there}
 use Rattle.k_model.specs.Maps.{upd}
 use Rattle.k_model.specs.State.{KernelState, is_dead, is_present}
 use Rattle.k_model.specs.Sound.{IsSound, IsListed}
 use Rattle.k_model.proofs.Maps.{upd_tells, upd_cases}
-use Rattle.k_model.proofs.Lists.{all_weaker, all_push}
-use Rattle.k_alone.specs.Memory.{Memory, Shows, table, with_word, with_mail, with_queue, with_ready, with_context, with_numbers}
+use Rattle.k_lists.proofs.All.{all_weaker, all_push}
+use Rattle.k_shown.specs.Memory.{Memory, Shows, table, with_word, with_mail, with_queue, with_ready, with_numbers}
 use Rattle.k_locks.specs.Shown.{shows}
-use Rattle.k_alone.specs.Sound.{IsReady, IsSoundReady, IsSoundWords, IsSoundNumbers, IsSoundContexts, IsContext, IsEntry, IsSoundMemory}
-use Rattle.k_alone.proofs.Shown.{same_shown, shows_table, sound_like, listed_like}
+use Rattle.k_locks.specs.Hands.{pushed as listed_last}
+use Rattle.k_shown.specs.Sound.{IsReady, IsSoundReady, IsSoundWords, IsSoundNumbers, IsSoundContexts, IsContext, IsSoundMemory}
+use Rattle.k_shown.proofs.Shown.{same_shown, shows_table, sound_like, listed_like}
 
 -- The number keeps its thread, which stays on where it was, and waits for nobody that isn't there.
 pub record Renews (m : Memory) (n : ℕ) (w : StateWord) : Type 0 where
@@ -66,15 +69,15 @@ module _ (m : Memory) (n : ℕ) (w : StateWord) (r : Renews m n w) where
   }
 
 -- Mails and queues don't count.
-pub mailed_words : (m : Memory) (n bits : ℕ) → IsSoundWords m → IsSoundWords (with_mail m n bits)
-mailed_words m n bits s = record {
+pub mailed_words : (m : Memory) (n : ℕ) (message : Message) → IsSoundWords m → IsSoundWords (with_mail m n message)
+mailed_words m n message s = record {
   words = s.words;
   sending = s.sending;
   receiving = s.receiving;
   entries = s.entries;
   ready = record {
     count = s.ready.count;
-    ready = λ p. all_weaker (IsReady m p) (IsReady (with_mail m n bits) p) (λ id h. record { version = h.version; alive = h.alive; on = h.on; level = h.level }) (list_of m.ready.lists p) (s.ready.ready p);
+    ready = λ p. all_weaker (IsReady m p) (IsReady (with_mail m n message) p) (λ id h. record { version = h.version; alive = h.alive; on = h.on; level = h.level }) (list_of m.ready.lists p) (s.ready.ready p);
     once = s.ready.once;
   };
 }
@@ -91,7 +94,7 @@ off_nowhere m n s off p = off_lacks m p n (list_of m.ready.lists p) off (s.ready
 
 -- A thread that is on, and stands in none, is pushed.
 abbrev pub pushed : Memory → ThreadId → ℕ → Memory
-pushed m id p = with_ready m (with_list m.ready p (list_of m.ready.lists p ++ id ∷ []))
+pushed m id p = with_ready m (listed_last id p m.ready)
 
 -- what the lists are after one is changed
 pub list_cases : (P : List ThreadId → Type 0) (lists : List (List ThreadId)) (p : ℕ) (es : List ThreadId) (q : ℕ) → p < length lists → (q ≡ p → P es) → (q ≢ p → P (list_of lists q)) → P (list_of (set lists p es) q)
@@ -119,7 +122,7 @@ pushed_words m id s v a on free =
             (all_push (IsReady m' p) (list_of m.ready.lists p) id (all_weaker (IsReady m p) (IsReady m' p) (same p) (list_of m.ready.lists p) (s.ready.ready p)) (record { version = v; alive = a; on = on; level = refl })))
             (λ _. all_weaker (IsReady m q) (IsReady m' q) (same q) (list_of m.ready.lists q) (s.ready.ready q));
         once = λ q. list_cases IsOnceEach m.ready.lists p (list_of m.ready.lists p ++ id ∷ []) q l
-            (λ _. once_append (list_of m.ready.lists p) id (s.ready.once p) (free p))
+            (λ _. once_append (λ (i : ThreadId). i.number) (list_of m.ready.lists p) id (s.ready.once p) (free p))
             (λ _. s.ready.once q);
       };
     }
@@ -161,10 +164,10 @@ pub record SameThreads (m m' : Memory) : Type 0 where
 
 pub numbers_kept : (m m' : Memory) → SameThreads m m' → IsSoundNumbers m → IsSoundNumbers m'
 numbers_kept m m' e s = record {
-  count = ap (λ (x : Numbers). x.count) e.numbers ∙ s.count ∙ sym e.size;
-  versions = ap (λ (x : Numbers). length x.versions) e.numbers ∙ s.versions;
-  version = λ n l. ap (λ (x : Numbers). version_at x n) e.numbers ∙ s.version n (subst (λ (x : ℕ). n < x) e.size l) ∙ sym (e.version n);
-  present = λ n l. ap (λ (x : Numbers). is_there x n) e.numbers ∙ s.present n (subst (λ (x : ℕ). n < x) e.size l) ∙ ap not (sym (e.dead n));
+  versions = ap (λ (x : ThreadNumbers). length x.versions) e.numbers ∙ s.versions ∙ sym e.size;
+  presences = ap (λ (x : ThreadNumbers). length x.present) e.numbers ∙ s.presences ∙ sym e.size;
+  version = λ n l. ap (λ (x : ThreadNumbers). version_at x n) e.numbers ∙ s.version n (subst (λ (x : ℕ). n < x) e.size l) ∙ sym (e.version n);
+  present = λ n l. ap (λ (x : ThreadNumbers). is_there x n) e.numbers ∙ s.present n (subst (λ (x : ℕ). n < x) e.size l) ∙ ap not (sym (e.dead n));
 }
 
 pub contexts_kept : (m m' : Memory) → SameThreads m m' → IsSoundContexts m → IsSoundContexts m'
@@ -198,20 +201,7 @@ then_threads a b c f g = record {
   room = λ n. g.room n ∙ f.room n;
 }
 
-pub contexted_words : (m : Memory) (n : ℕ) (w : ContextWord) → IsSoundWords m → IsSoundWords (with_context m n w)
-contexted_words m n w s = record {
-  words = s.words;
-  sending = s.sending;
-  receiving = s.receiving;
-  entries = s.entries;
-  ready = record {
-    count = s.ready.count;
-    ready = λ p. all_weaker (IsReady m p) (IsReady (with_context m n w) p) (λ id h. record { version = h.version; alive = h.alive; on = h.on; level = h.level }) (list_of m.ready.lists p) (s.ready.ready p);
-    once = s.ready.once;
-  };
-}
-
-pub numbered_words : (m : Memory) (ns : Numbers) → IsSoundWords m → IsSoundWords (with_numbers m ns)
+pub numbered_words : (m : Memory) (ns : ThreadNumbers) → IsSoundWords m → IsSoundWords (with_numbers m ns)
 numbered_words m ns s = record {
   words = s.words;
   sending = s.sending;

@@ -1,35 +1,22 @@
--- A caller that runs may make its call; and a thread's word is renewed.
-use Rattle.std.proofs.Common.{◌≡◌, ◌≢◌, ℕ, ◌+◌, ◌≤◌, true, false, not, ◌&&◌, eqb, refl, sym, ap, ◌∙◌, arith, Some}
+-- A caller is there, and a thread's word is renewed.
+use Rattle.std.proofs.Common.{◌≡◌, ◌≢◌, ℕ, ◌≤◌, true, false, refl, sym, ap, ◌∙◌, arith, Some}
 use Rattle.std.proofs.lemmas.Bool.{false≢true, eqb-true, eq-eqb, and_parts}
 use Rattle.std.specs.Option.{IfSome}
 use Rattle.k_ids.specs.declared.threads.ThreadId.{ThreadId}
 use Rattle.k_ids.specs.declared.threads.Status.TheVariants as status
-use Rattle.k_ids.specs.declared.calls.Phase.{Phase}
-use Rattle.k_ids.specs.declared.calls.Act.TheVariants as act
 use Rattle.k_ids.specs.declared.state_word.State.{State}
 use Rattle.k_ids.specs.declared.state_word.State.TheVariants as state
 use Rattle.k_ids.specs.declared.state_word.StateWord.{StateWord}
 use Rattle.k_ids.specs.StateWords.{IsStateWord, IsPartner, Agrees, is_live, partner_of}
 use Rattle.k_ids.proofs.StateSpelled.{live_agrees}
 use Rattle.k_model.specs.Maps.{upd}
-use Rattle.k_model.specs.State.{KernelState, is_dead, is_present, same_id}
-use Rattle.k_model.specs.Step.{may_act}
+use Rattle.k_model.specs.State.{is_dead, is_present, same_id}
 use Rattle.k_model.proofs.Maps.{upd_tells}
-use Rattle.k_alone.specs.Memory.{Memory, Shows, table}
+use Rattle.k_shown.specs.Memory.{Memory, table}
 use Rattle.k_locks.specs.Shown.{shows}
-use Rattle.k_alone.specs.Sound.{IsCaller}
-use Rattle.k_alone.proofs.Kept.{Renews}
-
-module _ (m : Memory) (k : KernelState) (h : Shows m k) where
-  -- presence, by the word
-  pub present_is : (id : ThreadId) → is_present k id ≡ is_present (table m) id
-  present_is id = λ d. (eqb (h.version id.number d) id.version) && not (is_dead (h.status id.number d))
-
-  pub may_call : (me : ThreadId) (own : StateWord) (p : Phase) → IsCaller m me own → may_act k me ((k.place me.number).serial + 1) (act.Call p) ≡ true
-  may_call me own p c =
-      let st : (k.place me.number).status ≡ status.Run = h.status me.number ∙ ap (λ (w : StateWord). shows w.state) c.word ∙ ap shows c.runs in
-      let ver : (k.place me.number).version ≡ me.version = h.version me.number ∙ ap (λ (w : StateWord). w.version) c.word ∙ c.version in
-      rw (ver, st, eq-eqb me.version me.version refl, eq-eqb ((k.place me.number).serial + 1) ((k.place me.number).serial + 1) refl) refl
+use Rattle.k_shown.specs.Sound.{IsCaller}
+use Rattle.k_shown.specs.Words.{on_with}
+use Rattle.k_shown.proofs.Kept.{Renews}
 
 pub caller_present : (m : Memory) (me : ThreadId) (own : StateWord) → IsCaller m me own → is_present (table m) me ≡ true
 caller_present m me own c = rw (c.word, c.runs, c.version, eq-eqb me.version me.version refl) refl
@@ -52,10 +39,6 @@ alive_agrees state.Ended w a d = a.0
 
 pub alive_version : (w : StateWord) → IsStateWord w → is_dead (shows w.state) ≡ false → 1 ≤ w.version
 alive_version w s d = alive_agrees w.state w s.agrees d
-
--- a thread's word with another state, on
-abbrev pub on_with : StateWord → State → StateWord
-on_with w s = record w { on = true; state = s }
 
 live_alive : (s : State) → is_live s ≡ true → is_dead (shows s) ≡ false
 live_alive state.Dead l = sym l

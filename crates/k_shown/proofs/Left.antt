@@ -1,5 +1,5 @@
 -- What a run leaves of words and lists, put together from its parts.
-use Rattle.std.proofs.Common.{◌≡◌, ◌≢◌, ℕ, suc, ◌<◌, Bool, true, false, not, ◌&&◌, ◌||◌, eqb, List, [], ◌∷◌, ◌++◌, map, length, set, refl, sym, ap, ◌∙◌, arith, Some, inl, inr, ◌⊎◌}
+use Rattle.std.proofs.Common.{◌≡◌, ◌≢◌, ℕ, suc, ◌<◌, Bool, true, false, not, ◌&&◌, ◌||◌, eqb, List, [], ◌∷◌, ◌++◌, map, length, set, refl, sym, ap, ◌∙◌, arith, inl, inr, ◌⊎◌}
 use Rattle.std.specs.Prelude.{if◌then◌else◌}
 use Rattle.std.proofs.lemmas.Bool.{false≢true, eq-eqb, ne_eqb, cases_Bool}
 use Rattle.std.proofs.lemmas.List.{append-nil, length-map, length-append}
@@ -9,24 +9,22 @@ use Rattle.k_ids.specs.declared.threads.Status.TheVariants as status
 use Rattle.k_ids.specs.declared.calls.Outcome.{Outcome}
 use Rattle.k_ids.specs.declared.histories.Event.{Event}
 use Rattle.k_ids.specs.declared.histories.ReplyLine.{ReplyLine}
-use Rattle.k_ids.specs.declared.state_word.Result4.TheVariants as result4
 use Rattle.k_ids.specs.declared.state_word.State.{State}
-use Rattle.k_ids.specs.declared.state_word.State.TheVariants as state
 use Rattle.k_ids.specs.declared.state_word.StateWord.{StateWord}
 use Rattle.k_senders.specs.declared.entries.SenderEntry.{SenderEntry}
-use Rattle.k_senders.specs.Queue.{Queue, number_of, without}
+use Rattle.k_senders.specs.Entries.{number_of}
+use Rattle.k_senders.specs.Queue.{Queue, without}
 use Rattle.k_ready.specs.Lists.{list_of, with_list}
 use Rattle.k_locks.specs.Shown.{shows}
-use Rattle.k_ipc.specs.Words.{is_joined_to}
 use Rattle.k_model.specs.Answered.{reply_to}
 use Rattle.k_model.specs.State.{is_present, is_run, same_id}
-use Rattle.k_model.proofs.Lists.{all_weaker}
-use Rattle.k_alone.specs.Memory.{Memory, table, waiting, waiting_of}
-use Rattle.k_alone.specs.Leaves.{IsWoken, Leaves, made_by, moved_word, pushed_by, state_with, woken_by}
-use Rattle.k_alone.specs.Sound.{IsReady, IsSoundReady}
-use Rattle.k_alone.proofs.Kept.{SameThreads, list_cases}
-use Rattle.k_alone.proofs.Receives.{taken_word}
-use Rattle.k_alone.proofs.States.{on_with}
+use Rattle.k_lists.proofs.All.{all_weaker}
+use Rattle.k_shown.specs.Memory.{Memory, table, waiting, waiting_of}
+use Rattle.k_shown.specs.Leaves.{IsWoken, Leaves, made_by, moved_word, pushed_by, state_with, woken_by}
+use Rattle.k_shown.specs.Sound.{IsReady, IsSoundReady}
+use Rattle.k_shown.proofs.Kept.{SameThreads, list_cases}
+use Rattle.k_shown.specs.Words.{on_with}
+use Rattle.k_shown.proofs.Statuses.{same_self}
 
 -- WORDS
 
@@ -88,17 +86,6 @@ woken_turns m who t s n runs not_yet e = inr (
   moved_run s (m.word t) runs not_yet ∙ ap (moved_word s) (ap m.word (sym e)),
   inr (λ q. false≢true (sym not_yet ∙ ap (λ (j : ℕ). is_run (shows (m.word j).state)) (sym e) ∙ sym (ap is_run q) ∙ runs)),
 )
-
--- that of a sender whose message is taken
-pub taken_turns : (m : Memory) (who me : ThreadId) (t : ℕ) (j : Bool) (n : ℕ) → (m.word t).state ≡ state.Sending me j → n ≡ t → Turns m who n (taken_word j me (m.word t))
-taken_turns m who me t true n st e = inr (
-  moved_in (state.Receiving (Some me)) (m.word t) refl ∙ ap (moved_word (state.Receiving (Some me))) (ap m.word (sym e)),
-  inr (λ q. let one : status.Receiving (Some me) ≡ status.Sending me = q ∙ ap (λ (j : ℕ). shows (m.word j).state) e ∙ ap shows st in cc),
-)
-taken_turns m who me t false n st e = woken_turns m who t (state.Run result4.Sent) n refl (ap (λ (s : State). is_run (shows s)) st) e
-
-pub or_joined : (s : State) (me : ThreadId) (j on : Bool) → s ≡ state.Sending me j → (is_joined_to s || on) ≡ (j || on)
-or_joined s me j on e = ap (λ (x : State). is_joined_to x || on) e
 
 -- LISTS
 
@@ -179,17 +166,14 @@ leaves_from event o lines m m' t turns woken own mails queues lists running = re
 
 -- REPLIES TO THE CALLER ALONE
 
-pub self_told : (id : ThreadId) → same_id id id ≡ true
-self_told id = rw (eq-eqb id.number id.number refl, eq-eqb id.version id.version refl) refl
-
 -- a line of the caller wakes nobody
 pub no_other : {P : Type 0} (who id : ThreadId) → id ≡ who → same_id id who ≡ false → P
-no_other who id e f = absurd (false≢true (sym f ∙ ap (λ (i : ThreadId). same_id i who) e ∙ self_told who))
+no_other who id e f = absurd (false≢true (sym f ∙ ap (λ (i : ThreadId). same_id i who) e ∙ same_self who))
 
 mine_woken : (who : ThreadId) (lines : List ReplyLine) → AllByRecursion (λ line. line.id ≡ who) lines → woken_by who lines ≡ []
 mine_woken who [] all = refl
 mine_woken who (line ∷ lines) all =
-    let same : same_id line.id who ≡ true = ap (λ (i : ThreadId). same_id i who) all.0 ∙ self_told who in
+    let same : same_id line.id who ≡ true = ap (λ (i : ThreadId). same_id i who) all.0 ∙ same_self who in
     rw same (mine_woken who lines all.1)
 
 pub mine_pushed : (m : Memory) (who : ThreadId) (o : Outcome) (lines : List ReplyLine) → AllByRecursion (λ line. line.id ≡ who) lines → made_by o ≡ [] → pushed_by m who o lines ≡ []

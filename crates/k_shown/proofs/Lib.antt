@@ -1,0 +1,12 @@
+pub mod Statuses
+pub mod Shown
+pub mod Kept
+pub mod States
+pub mod Rooms
+pub mod Alike
+pub mod SendRows
+pub mod ReceiveRows
+pub mod Numbers
+pub mod Left
+pub mod TableRows
+pub mod Booted

@@ -1,8 +1,11 @@
 #!/bin/sh
-# Runs the built program and compares its exit statuses and texts with those of docs/REPORT.md. Run by hand, once the
-# program is built (./fiasco_run builds it).
+# Runs the built program where a case of text can't: over inputs and outputs that fail, near its largest input, and without
+# memory. The statuses and texts are those of docs/REPORT.md.
+#
+#     tests/statuses.sh [PROGRAM]
 top=$(cd "$(dirname "$0")/.." && pwd) || exit 1
-program="$top/crates/fiasco_run/out/fiasco_run"
+program=${1:-$top/crates/fiasco_run/out/fiasco_run}
+script="$top/examples/first.script"
 failed=0
 
 ends() { # ends WHAT STATUS WANTED-STATUS TEXT WANTED-TEXT
@@ -14,34 +17,20 @@ ends() { # ends WHAT STATUS WANTED-STATUS TEXT WANTED-TEXT
     fi
 }
 
-usage='usage: fiasco_run run, check, big N, carry M'
-
-text=$("$program" run < "$top/crates/fiasco_run/stdin"); status=$?
-ends 'a script is run' $status 0 "$text" "$(cat "$top/crates/fiasco_run/stdout")"
-
-text=$(printf 'kernel 3' | "$program" run); status=$?
-ends 'a bad script is refused' $status 1 "$text" 'refused line 1 version'
-
-text=$(head -c 1048577 /dev/zero | tr '\0' '\n' | "$program" run); status=$?
-ends 'too many bytes are refused' $status 1 "$text" 'refused too large'
-
-text=$("$program" < /dev/null); status=$?
-ends 'no words are no form' $status 2 "$text" "$usage"
-
-text=$("$program" check < "$top/examples/call-history.check"); status=$?
-ends 'a legal history' $status 0 "$text" 'legal 5'
-
-text=$(grep -v '^0.1 2 end' "$top/examples/call-history.check" | "$program" check); status=$?
-ends 'an unfinished history' $status 6 "$text" 'unfinished 0.1'
-
-text=$(printf 'kernel 1\ntable 1\nprogram a\nwork 3999997\nend\nthread 5 a' | "$program" run); status=$?
-ends 'a script that is too long' $status 1 "$text" 'refused too long 4000001'
-
-text=$("$program" run x < /dev/null); status=$?
-ends 'more words are no form' $status 2 "$text" "$usage"
-
 text=$("$program" run < "$top"); status=$?
 ends 'an input that cannot be read' $status 3 "$text" 'read fault'
+
+text=$("$program" check < "$top"); status=$?
+ends 'an input of check that cannot be read' $status 3 "$text" 'read fault'
+
+"$program" run < "$script" > /dev/full; status=$?
+ends 'an output that takes no report' $status 4 '' ''
+
+"$program" check < "$top/examples/call-history.check" > /dev/full; status=$?
+ends 'an output that takes no verdict' $status 4 '' ''
+
+"$program" run < /dev/null > /dev/full; status=$?
+ends 'an output that takes no refusal' $status 4 '' ''
 
 checked() { # checked BYTES: a script, a history that is one long line, so many bytes in all
     printf 'kernel 1\ntable 1\nprogram a\nend\nthread 5 a\n--\n'
@@ -54,7 +43,28 @@ ends 'an input of the most bytes' $status 6 "$text" 'unreadable 1'
 text=$(checked 135266305 | (ulimit -v 1000000; "$program" check)); status=$?
 ends 'one byte more is too large' $status 1 "$text" 'refused too large'
 
-"$program" run < "$top/crates/fiasco_run/stdin" > /dev/full; status=$?
-ends 'an output that takes nothing' $status 4 '' ''
+text=$(checked 135266304 | (ulimit -v 50000; "$program" check)); status=$?
+ends 'no memory for an input' $status 5 "$text" 'no memory'
+
+# 1,800,000 bytes of words, under rising limits: the program can't be started, then there is no memory for the words, and then
+# they are no form.
+text=$(python3 - "$program" <<'END'
+import resource, subprocess, sys
+
+def ends(limit):
+    words = ["x" * 120000] * 15
+    limits = lambda: resource.setrlimit(resource.RLIMIT_AS, (limit, limit))
+    try:
+        ran = subprocess.run([sys.argv[1], *words], stdin=subprocess.DEVNULL, capture_output=True, preexec_fn=limits)
+    except OSError:
+        return 127, b""
+    return ran.returncode, ran.stdout
+
+found = {ends(thousands * 1000) for thousands in range(2000, 16000, 200)}
+print(sorted(it for it in found if 0 <= it[0] < 127))
+END
+)
+usage='usage: fiasco_run run, check, big N, carry M'
+ends 'no memory for the words' $? 0 "$text" "[(2, b'$usage\\n'), (5, b'no memory\\n')]"
 
 exit $failed

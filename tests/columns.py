@@ -21,6 +21,15 @@ SECTIONS = {
 }
 
 
+def there(path):
+    """The file, under its own name or that of a table."""
+    table = path.replace(".antt", "Table.antt")
+    return table if os.path.exists(os.path.join(TOP, table)) else path
+
+
+SECTIONS = {section: there(path) for section, path in SECTIONS.items()}
+
+
 class Wrong(Exception):
     """A cell or a definition that can't be read."""
 

@@ -55,8 +55,7 @@ fn entry_at(queue: &Senders, number: u8) -> SenderEntry
     requires { stands number queue.now.entries ≡ true }
     ensures { entry_of number queue.now.entries ≡ Some result }
 {
-    queue.holds();
-    match queue.rows()[usize::from(number)].entry {
+    match queue.entry(number) {
         Some(entry) => entry,
         None => unreachable!(),
     }

@@ -5,7 +5,7 @@ use Rattle.std.specs.Int.{bit_at}
 use Rattle.std.proofs.lemmas.Bool.{cases_eq}
 use Rattle.std.proofs.lemmas.List.{get_or_default}
 use Rattle.std.proofs.lemmas.Nat.Bits.{bit_at-zero}
-use Rattle.k_ready.proofs.Removed.{nobody_has}
+use Rattle.k_ready.proofs.Versions.{nobody_has}
 use Rattle.std.proofs.lemmas.Grind.{common_steps}
 use Rattle.k_ids.specs.declared.threads.ThreadId.{ThreadId}
 use Rattle.k_ready.specs.Lists.{IsInNone, has_thread, is_empty, list_of, mask_bit, stands}
@@ -110,15 +110,16 @@ pub mask_standing : (n : ℕ) (es : List ThreadId) → stands n es ≡ true → 
 mask_standing n [] s = grind arith
 mask_standing n (f ∷ es) s = refl
 
--- nothing stands anywhere at first
-pub kept_empty : (lists : List (List ThreadId)) (places : List (Option ℕ)) → length lists ≡ 64 → length places ≡ 64 → ((p : ℕ) → list_of lists p ≡ []) → ((n : ℕ) → place_of places n ≡ None) → IsKept lists places 0
-kept_empty lists places a b h u = record {
-  size = a;
-  numbers = b;
-  placed = λ n p s. absurd (let e = ap (stands n) (h p) in cc);
-  standing = λ n p s. absurd (let e = u n in cc);
-  masked = λ p l. bit_at-zero p ∙ sym (ap mask_bit (h p));
-}
+-- a list whose bit is 0 is empty
+mask_empty : (es : List ThreadId) → mask_bit es ≡ 0 → es ≡ []
+mask_empty [] e = refl
+mask_empty (f ∷ es) e = absurd cc
+
+pub bit_empty : (lists : List (List ThreadId)) (places : List (Option ℕ)) (mask : ℕ) → IsKept lists places mask → (p : ℕ) → p < 64 → bit_at mask p ≡ 0 → list_of lists p ≡ []
+bit_empty lists places mask k p l e = mask_empty (list_of lists p) (sym (k.masked p l) ∙ e)
+
+pub none_empty : (lists : List (List ThreadId)) (places : List (Option ℕ)) (mask : ℕ) → IsKept lists places mask → mask ≡ 0 → (p : ℕ) → p < 64 → list_of lists p ≡ []
+none_empty lists places mask k e p l = bit_empty lists places mask k p l (ap (λ (m : ℕ). bit_at m p) e ∙ bit_at-zero p)
 
 elsewhere : (lists : List (List ThreadId)) (places : List (Option ℕ)) (mask n p : ℕ) → IsKept lists places mask → stands n (list_of lists p) ≡ true → (q : ℕ) → q ≢ p → stands n (list_of lists q) ≡ false
 elsewhere lists places mask n p k s q ne = grind (arith, common_steps, k.placed n p, k.placed n q)

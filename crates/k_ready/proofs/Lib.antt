@@ -1,6 +1,5 @@
-pub mod Appended
-pub mod Walked
-pub mod Removed
-pub mod Rows
-pub mod Masks
+pub mod Versions
+pub mod Popped
+pub mod Changed
 pub mod Kept
+pub mod Masks

@@ -1,11 +1,24 @@
--- The highest bit of a mask, by its leading zeros.
-use Rattle.std.proofs.Common.{◌≢◌, ◌≡◌, ◌<◌, ◌≤◌, ◌+◌, ◌-◌, ◌*◌, ◌/◌, ◌^◌, ℕ, arith, suc, refl}
+-- A mask with one bit changed, and its highest bit, by its leading zeros.
+use Rattle.std.proofs.Common.{◌≢◌, ◌≡◌, ◌<◌, ◌≤◌, ◌+◌, ◌-◌, ◌*◌, ◌/◌, ◌%◌, ◌^◌, ℕ, arith, suc, refl}
 use Rattle.std.proofs.lemmas.Grind.{common_steps}
-use Rattle.std.specs.Int.{bit_at}
+use Rattle.std.specs.Prelude.{bit_and, bit_or}
+use Rattle.std.specs.Int.{bit_at, w64}
 use Rattle.std.specs.Int.Count.{count_leading_zeros}
 use Rattle.std.proofs.lemmas.Nat.{leading_top}
 use Rattle.std.proofs.Math.Nat.{div-lt_iff_lt-mul, lt-mul-div-succ}
-use Rattle.std.proofs.lemmas.Nat.Bits.{bit_at_above}
+use Rattle.std.proofs.lemmas.Nat.Bits.{bit_at_above, bit_at_clear_other, bit_at_clear_same, bit_at_set_other, bit_at_set_same}
+
+pub set_same : (mask p : ℕ) → p < 64 → bit_at (bit_or mask (1 * 2 ^ p % 2 ^ 64)) p ≡ 1
+set_same mask p l = bit_at_set_same w64 mask p l
+
+pub set_other : (mask p q : ℕ) → p < 64 → q ≢ p → bit_at (bit_or mask (1 * 2 ^ p % 2 ^ 64)) q ≡ bit_at mask q
+set_other mask p q l ne = bit_at_set_other w64 mask p l q ne
+
+pub clear_same : (mask p : ℕ) → p < 64 → bit_at (bit_and mask (2 ^ 64 - 1 - 1 * 2 ^ p % 2 ^ 64)) p ≡ 0
+clear_same mask p l = bit_at_clear_same w64 mask p l
+
+pub clear_other : (mask p q : ℕ) → p < 64 → q < 64 → q ≢ p → bit_at (bit_and mask (2 ^ 64 - 1 - 1 * 2 ^ p % 2 ^ 64)) q ≡ bit_at mask q
+clear_other mask p q l i ne = bit_at_clear_other w64 mask p l q i ne
 
 one_time : (n d : ℕ) → d ≤ n → n < 2 * d → n / d ≡ 1
 one_time n d a b =

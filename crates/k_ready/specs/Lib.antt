@@ -1,3 +1,3 @@
 pub mod Lists
-pub mod Links
+pub mod Popped
 pub mod Kept

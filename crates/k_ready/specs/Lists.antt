@@ -1,6 +1,7 @@
 -- Ready lists: for each priority the threads that run and wait for the processor, in the order in which they are to go on.
-use Rattle.std.specs.Prelude.{◌≡◌, ◌<◌, ℕ, Bool, true, false, ◌==◌, ◌&&◌, ◌||◌, if◌then◌else◌, Option, Some, None, List, [], ◌∷◌, drop, slice_index_or, slice_set}
+use Rattle.std.specs.Prelude.{◌≡◌, ◌<◌, ℕ, Bool, true, false, ◌==◌, ◌&&◌, ◌||◌, Option, Some, None, List, [], ◌∷◌, slice_index_or, slice_set}
 use Rattle.k_ids.specs.declared.threads.ThreadId.{ThreadId}
+use Rattle.k_links.specs.Listed as listed
 
 -- What contracts see: a list for each priority, and the number `running`.
 pub record Ready : Type 0 where
@@ -11,38 +12,34 @@ pub record Ready : Type 0 where
 abbrev pub list_of : List (List ThreadId) → ℕ → List ThreadId
 list_of lists priority = slice_index_or lists priority []
 
+-- BY NUMBER: what one list says of a thread number (k_links)
+
 -- the thread number of an entry
 abbrev pub number_of : ThreadId → ℕ
 number_of e = e.number
 
 -- the entry of a number
 abbrev pub entry_of : ℕ → List ThreadId → Option ThreadId
-entry_of n [] = None
-entry_of n (e ∷ es) = if number_of e == n then Some e else entry_of n es
+entry_of = listed.entry_of number_of
 
 -- whether an entry has this number
 abbrev pub stands : ℕ → List ThreadId → Bool
-stands n [] = false
-stands n (e ∷ es) = (number_of e == n) || stands n es
+stands = listed.stands number_of
+
+-- The list without the entry of a number. The others keep their order.
+abbrev pub without : ℕ → List ThreadId → List ThreadId
+without = listed.without number_of
+
+-- no two entries have the same number
+abbrev pub IsOnceEach : List ThreadId → Type 0
+IsOnceEach = listed.IsOnceEach number_of
+
+-- ONE LIST
 
 -- whether a thread, this number with this version, stands in a list
 abbrev pub has_thread : ThreadId → List ThreadId → Bool
 has_thread id [] = false
 has_thread id (e ∷ es) = (e.number == id.number && e.version == id.version) || has_thread id es
-
--- The list without the first entry of number n. The others keep their order.
-abbrev pub without : ℕ → List ThreadId → List ThreadId
-without n [] = []
-without n (e ∷ es) = if number_of e == n then es else e ∷ without n es
-
--- no two entries have the same number
-abbrev pub IsOnceEach : List ThreadId → Type 0
-IsOnceEach [] = Unit {0}
-IsOnceEach (e ∷ es) = (stands (number_of e) es ≡ false) × IsOnceEach es
-
--- a number that stands in no list
-abbrev pub IsInNone : ℕ → List (List ThreadId) → Type 0
-IsInNone n lists = (priority : ℕ) → stands n (list_of lists priority) ≡ false
 
 -- the first entry
 abbrev pub first_of : List ThreadId → Option ThreadId
@@ -59,16 +56,15 @@ abbrev pub mask_bit : List ThreadId → ℕ
 mask_bit [] = 0
 mask_bit (e ∷ es) = 1
 
+-- ALL LISTS
+
+-- a number that stands in no list
+abbrev pub IsInNone : ℕ → List (List ThreadId) → Type 0
+IsInNone n lists = (priority : ℕ) → stands n (list_of lists priority) ≡ false
+
 -- One list is changed. The others and `running` are as they were.
 abbrev pub with_list : Ready → ℕ → List ThreadId → Ready
 with_list r priority es = record r { lists = slice_set r.lists priority es }
-
--- The first thread of the highest list that isn't empty is taken.
-pub record IsPopped (before after : Ready) (id : ThreadId) (priority : ℕ) : Type 0 where
-  pub inside : priority < 64
-  pub highest : (p : ℕ) → priority < p → list_of before.lists p ≡ []
-  pub first : first_of (list_of before.lists priority) ≡ Some id
-  pub taken : after ≡ with_list before priority (drop 1 (list_of before.lists priority))
 
 -- A thread is taken out of the list in which it stands.
 pub record IsRemoved (before after : Ready) (id : ThreadId) (priority : ℕ) : Type 0 where

@@ -1,5 +1,6 @@
 // The ready lists: a list for each priority, where each number stands, and a mask of the priorities that have threads.
-ghost use Rattle.k_ready.specs.Lists.{IsInNone, IsPopped, IsRemoved, has_thread, list_of, mask_bit, stands, with_list};
+ghost use Rattle.k_ready.specs.Lists.{IsInNone, IsRemoved, has_thread, list_of, mask_bit, stands, with_list};
+ghost use Rattle.k_ready.specs.Popped.{highest, parts_of, popped};
 ghost use Rattle.std.specs.Int.{bit_at};
 ghost use Rattle.std.specs.List.{All};
 ghost use Rattle.std.specs.Prelude.{IfNone, IfOk, IfSome, false, length, true, ℕ, [], ◌∷◌, ◌++◌, ◌<◌, ◌≡◌};
@@ -78,9 +79,8 @@ impl ReadyLists {
     /// Takes the first thread of the highest list that isn't empty: its number, version and priority. `None` exactly where
     /// all lists are empty, and then nothing has changed.
     pub fn pop_highest(&mut self) -> Option<(u8, u32, u8)>
-        ensures some { IfSome result (λ r. IsPopped self.old self.new (record { number = r.0; version = r.1 }) r.2) }
-        ensures none { IfNone result ((priority : ℕ) → list_of self.old.lists priority ≡ []) }
-        ensures unchanged { IfNone result (self.new ≡ self.old) }
+        ensures highest { result ≡ parts_of (highest self.old) }
+        ensures popped { self.new ≡ popped self.old }
     {
         if self.mask == 0 {
             return None;

@@ -3,7 +3,7 @@ ghost use Rattle.std.specs.Int.{bit_at};
 ghost use Rattle.std.specs.Prelude.{if◌then◌else◌, ℕ, ◌<◌, ◌≢◌, ◌≡◌};
 
 /// The mask with a priority's bit set.
-#[tactic(auto, using(std::proofs::lemmas::Nat::Bits::bit_at_set_same, std::proofs::lemmas::Nat::Bits::bit_at_set_other))]
+#[tactic(auto, using(crate::proofs::Masks::set_same, crate::proofs::Masks::set_other))]
 pub fn with_bit(mask: u64, priority: u8) -> u64
     requires { priority < 64 }
     ensures same { bit_at result priority ≡ 1 }
@@ -13,6 +13,7 @@ pub fn with_bit(mask: u64, priority: u8) -> u64
 }
 
 /// The mask with a priority's bit cleared, where the priority has no threads any more.
+#[tactic(auto, using(crate::proofs::Masks::clear_same, crate::proofs::Masks::clear_other))]
 pub fn without_bit(mask: u64, priority: u8, is_empty: bool) -> u64
     requires { priority < 64 }
     ensures same { bit_at result priority ≡ (if is_empty then 0 else bit_at mask priority) }
@@ -26,6 +27,7 @@ pub fn without_bit(mask: u64, priority: u8, is_empty: bool) -> u64
 }
 
 /// The highest priority whose bit is set. One must be.
+#[tactic(auto, using(crate::proofs::Masks::highest_bit, crate::proofs::Masks::none_above))]
 pub fn highest(mask: u64) -> u8
     requires { mask ≢ 0 }
     ensures inside { result < 64 }

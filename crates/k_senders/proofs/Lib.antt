@@ -1,7 +1,2 @@
 pub mod EntrySpelled
-pub mod Appended
-pub mod Walked
-pub mod Removed
-pub mod Rows
-pub mod Places
-mod Counted
+pub mod Positions

@@ -1,3 +1,3 @@
 pub mod Entries
 pub mod Queue
-pub mod Links
+pub mod Places

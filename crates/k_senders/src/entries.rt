@@ -1,8 +1,9 @@
-// An entry of a queue, and the row of a thread number.
+// An entry of a queue.
 ghost use Rattle.std.specs.Prelude.{◌≡◌, ◌<◌, ◌^◌};
 ghost use Rattle.k_senders.specs.Entries.{thread_of, who_of};
 
 use k_ids::{Message, ThreadId};
+use k_links::Numbered;
 
 /// One who waits to send.
 ///
@@ -61,6 +62,16 @@ impl SenderEntry {
     }
 }
 
+impl Numbered for SenderEntry {
+    ghost use Rattle.k_senders.specs.Entries.{number_of};
+
+    ghost number = { number_of };
+
+    fn number(&self) -> u8 {
+        self.sender().number
+    }
+}
+
 /// A thread in 64 bits, as an entry names it: its version times 64 plus its number.
 #[tactic(auto, unfolding(crate::specs::Entries::who_of))]
 pub fn who_of(id: ThreadId) -> u64
@@ -80,15 +91,4 @@ pub fn thread_of(who: u64) -> ThreadId
         number: (who % 64) as u8,
         version: (who / 64 % (1 << 20)) as u32,
     }
-}
-
-/// What a queue has at one thread number. All three are `None` where no entry has the number.
-#[derive(Clone, Copy, Debug, PartialEq, Eq)]
-pub struct SenderRow {
-    /// The entry of this number.
-    pub entry: Option<SenderEntry>,
-    /// The number of the entry before it: `None` for the first.
-    pub prior: Option<u8>,
-    /// The number of the entry after it: `None` for the last.
-    pub next: Option<u8>,
 }

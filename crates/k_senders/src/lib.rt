@@ -22,11 +22,10 @@
 
 mod entries;
 mod laws;
-mod links;
 mod senders;
 #[cfg(test)]
 mod tests;
 
-pub use entries::{SenderEntry, SenderRow, thread_of, who_of};
+pub use entries::{SenderEntry, who_of};
 pub use laws::an_entry_is_a_sender_and_a_message;
 pub use senders::Senders;

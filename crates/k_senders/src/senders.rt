@@ -1,12 +1,14 @@
-// The queue: a row for each thread number, linked in the order of the entries.
+// The queue: linked rows of entries, by thread number.
+ghost use Rattle.k_links.specs.Links.{row_at};
 ghost use Rattle.k_senders.specs.Entries.{number_of};
-ghost use Rattle.k_senders.specs.Links.{IsKnown, IsNumberAt, is_of, row_at};
-ghost use Rattle.k_senders.specs.Queue.{IsOnceEach, entry_of, first_number, number_after, row_of, sends, stands, without, without_thread};
-ghost use Rattle.std.specs.Prelude.{IfOk, None, Some, false, length, remove, slice_get, true, ℕ, [], ◌∷◌, ◌++◌, ◌%◌, ◌<◌, ◌≡◌, ◌≤◌};
+ghost use Rattle.k_senders.specs.Places.{IsKnown, IsNumberAt, is_of};
+ghost use Rattle.k_senders.specs.Queue.{IsOnceEach, entry_of, first_number, number_after, row_of, stands, without};
+ghost use Rattle.k_senders.specs.Queue.{sends, without_thread};
+ghost use Rattle.std.specs.Prelude.{IfOk, Some, false, length, remove, slice_get, true, ℕ, [], ◌∷◌, ◌++◌, ◌<◌, ◌≡◌, ◌≤◌};
 
-use crate::entries::{SenderEntry, SenderRow, thread_of};
-use crate::links::{EMPTY_ROW, append, cut, end_of};
+use crate::entries::{SenderEntry, thread_of};
 use k_ids::NoMemory;
+use k_links::{Links, Row};
 use std::alloc::Global;
 use std::marker::Model;
 
@@ -15,22 +17,15 @@ use std::marker::Model;
 /// Contracts see the list of entries and `room`, how many numbers there are.
 #[derive(Drop)]
 pub struct Senders {
-    rows: Vec<SenderRow>,
-    first: Option<u8>,
-    last: Option<u8>,
-    count: usize,
+    links: Links<SenderEntry>,
 }
 
 impl Model for Senders {
-    ghost use Rattle.std.specs.Prelude.{length};
     ghost use Rattle.k_senders.specs.Queue.{Queue};
-    ghost use Rattle.k_senders.specs.Links.{IsLinked, walked};
 
     ghost Value = { Queue };
 
-    ghost view = { λ s. record { entries = walked s.rows.items s.count s.first; room = length s.rows.items } };
-
-    ghost invariant = { λ s. IsLinked s.rows.items s.first s.last s.count (walked s.rows.items s.count s.first) };
+    ghost view = { λ s. record { entries = s.links.entries; room = s.links.room } };
 }
 
 impl Senders {
@@ -39,28 +34,19 @@ impl Senders {
         ensures entries { IfOk result (λ s. s.entries ≡ []) }
         ensures room { IfOk result (λ s. s.room ≡ n) }
     {
-        let rows = vec![in alloc; EMPTY_ROW; usize::from(n)]?;
         Ok(Senders {
-            rows,
-            first: None,
-            last: None,
-            count: 0,
+            links: Links::opened(alloc, n)?,
         })
     }
 
     /// Appends an entry. Its number must be below `n`, and no entry may have the same number.
     pub fn push(&mut self, entry: SenderEntry)
-        requires few { length self.old.entries < self.old.room }
         requires inside { number_of entry < self.old.room }
         requires new { stands (number_of entry) self.old.entries ≡ false }
         ensures entries { self.new.entries ≡ self.old.entries ++ entry ∷ [] }
         ensures room { self.new.room ≡ self.old.room }
     {
-        let number = entry.number();
-        append(&mut self.rows, self.last, entry);
-        self.first = end_of(self.last, self.first, Some(number));
-        self.last = Some(number);
-        self.count += 1;
+        self.links.push(entry);
     }
 
     /// Takes the entry of a number out. The others keep their order. An entry must have the number.
@@ -70,14 +56,7 @@ impl Senders {
         ensures entries { self.new.entries ≡ without number self.old.entries }
         ensures room { self.new.room ≡ self.old.room }
     {
-        let row = cut(&mut self.rows, number);
-        self.first = end_of(row.prior, self.first, row.next);
-        self.last = end_of(row.next, self.last, row.prior);
-        self.count -= 1;
-        match row.entry {
-            Some(entry) => entry,
-            None => unreachable!(),
-        }
+        self.links.take_number(number)
     }
 
     /// The entry at a position, counted from 0. It walks so many links.
@@ -85,7 +64,7 @@ impl Senders {
         requires { i < length self.now.entries }
         ensures { slice_get self.now.entries i ≡ Some result }
     {
-        self.entry(self.number_at(i))
+        self.standing(self.number_at(i))
     }
 
     /// Takes the entry at a position out, counted from 0. The others keep their order. It walks so many links.
@@ -116,14 +95,14 @@ impl Senders {
     pub fn len(&self) -> usize
         ensures { result ≡ length self.now.entries }
     {
-        self.count
+        self.links.len()
     }
 
     /// The number of the first entry: `None` exactly where there is none.
     pub fn first(&self) -> Option<u8>
         ensures { result ≡ first_number self.now.entries }
     {
-        self.first
+        self.links.first()
     }
 
     /// The number of the entry after that of a number: `None` exactly where it is the last. An entry must have the number.
@@ -131,26 +110,33 @@ impl Senders {
         requires { stands number self.now.entries ≡ true }
         ensures { result ≡ number_after number self.now.entries }
     {
-        self.row(number).next
+        self.links.after(number)
+    }
+
+    /// The entry of a number: `None` exactly where no entry has it.
+    pub fn entry(&self, number: u8) -> Option<SenderEntry>
+        ensures { result ≡ entry_of number self.now.entries }
+    {
+        self.links.entry(number)
     }
 
     /// The rows of the numbers 0 to `n` - 1: the entry of each number, and the numbers of the entries before and after it.
     /// All three are `None` where no entry has the number.
-    pub fn rows(&self) -> &[SenderRow]
+    pub fn rows(&self) -> &[Row<SenderEntry>]
         ensures size { length result.now ≡ self.now.room }
         ensures rows { (number : ℕ) → row_at result.now number ≡ row_of self.now.entries number }
     {
-        &self.rows
+        self.links.rows()
     }
 
     /// Does nothing. Its contract tells what holds of each queue: each number has one entry at most, and is below `n` and 64.
-    #[tactic(auto, using(crate::proofs::Counted::few_entries))]
+    #[tactic(auto, using(crate::proofs::Positions::few_entries))]
     pub fn holds(&self)
         ensures once { IsOnceEach self.now.entries }
         ensures inside { (number : ℕ) → stands number self.now.entries ≡ true → number < self.now.room }
         ensures few { length self.now.entries ≤ 64 }
     {
-        let _rows = &self.rows;
+        self.links.holds();
     }
 
     // The number of the entry at a position.
@@ -158,7 +144,8 @@ impl Senders {
         requires { i < length self.now.entries }
         ensures { IsNumberAt self.now.entries i result }
     {
-        let mut number = self.first;
+        self.holds();
+        let mut number = self.first();
         for _ in 0..i {
             number = match number {
                 Some(before) => self.after(before),
@@ -171,34 +158,25 @@ impl Senders {
         }
     }
 
-    // The row of a number that an entry has.
-    fn row(&self, number: u8) -> SenderRow
-        requires { stands number self.now.entries ≡ true }
-        ensures { result ≡ row_of self.now.entries number }
-    {
-        self.rows[usize::from(number)]
-    }
-
-    // The entry of a number.
-    #[tactic(auto, using(crate::proofs::Rows::standing_entry))]
-    fn entry(&self, number: u8) -> SenderEntry
+    // The entry of a number that stands.
+    #[tactic(auto, using(k_links::proofs::Linked::standing_entry))]
+    fn standing(&self, number: u8) -> SenderEntry
         requires { stands number self.now.entries ≡ true }
         ensures { entry_of number self.now.entries ≡ Some result }
     {
-        match self.row(number).entry {
+        match self.entry(number) {
             Some(entry) => entry,
             None => unreachable!(),
         }
     }
 
     // Whether an entry is of a thread.
+    #[tactic(auto, using(crate::proofs::Positions::known))]
     fn has_thread(&self, who: u64) -> bool
         ensures { IsKnown self.now.entries who result }
     {
-        match self.rows.get(usize::from(thread_of(who).number)) {
-            Some(row) => is_of(row.entry, who),
-            None => false,
-        }
+        self.holds();
+        is_of(self.entry(thread_of(who).number), who)
     }
 }
 

@@ -1,8 +1,8 @@
 use Rattle.std.proofs.Common.{rules, Some, ℕ, [], ◌∷◌, ◌++◌, ◌≡◌, List, Option, arith, sym, ◌∙◌, ap}
 use Rattle.k_ids.specs.declared.threads.ThreadId.{ThreadId}
-use Rattle.k_ready.specs.Lists.{IsInNone, list_of, mask_bit, stands}
+use Rattle.k_ready.specs.Lists.{IsInNone, list_of, mask_bit, number_of, stands}
 use Rattle.k_ready.specs.Kept.{IsKept}
-use Rattle.k_ready.proofs.Appended.{stands_append}
+use Rattle.k_links.proofs.Appended.{stands_append}
 use Rattle.k_ready.proofs.Kept.{changed, kept_add, mask_append, placed, read_list}
 use Rattle.k_ready.proofs.lists.ReadyLists.push.Goals as goal
 
@@ -22,4 +22,4 @@ invariant_of-self c =
     (placed places c.args.number (Some c.args.priority) (omega (arith, k.numbers)))
     (record { same = c.with_bit-self-inside.ensures.same ∙ sym (ap mask_bit e ∙ mask_append (list_of lists c.args.priority) id); others = λ q l ne. c.with_bit-self-inside.ensures.others q ne })
     fresh
-    (λ m. ap (stands m) e ∙ stands_append m (list_of lists c.args.priority) id))
+    (λ m. ap (stands m) e ∙ stands_append number_of m (list_of lists c.args.priority) id))

@@ -1,5 +1,5 @@
 use Rattle.k_ready.specs.Lists.{list_of}
-use Rattle.k_ready.proofs.Removed.{nobody_has}
+use Rattle.k_ready.proofs.Versions.{nobody_has}
 use Rattle.k_ready.proofs.lists.ReadyLists.remove.Goals as goal
 
 pub returns-in-None-clause-absent : goal.returns-in-None-clause-absent

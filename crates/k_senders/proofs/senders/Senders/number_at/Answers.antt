@@ -1,7 +1,7 @@
 use Rattle.std.proofs.Common.{drop, ◌+◌, ◌≡◌, List, arith, sym, ◌∙◌, refl}
 use Rattle.k_senders.specs.declared.entries.SenderEntry.{SenderEntry}
 use Rattle.k_senders.specs.Queue.{first_number}
-use Rattle.k_senders.proofs.Places.{number_at, number_end, number_more, number_there}
+use Rattle.k_senders.proofs.Positions.{number_at, number_end, number_more, number_there}
 use Rattle.k_senders.proofs.senders.Senders.number_at.Goals as goal
 use Rattle.k_senders.proofs.senders.Senders.number_at.Goals.{in-Some, in-None}
 

@@ -14,6 +14,7 @@ use Rattle.fiasco_run.specs.declared.due.Due.TheVariants as due
 use Rattle.fiasco_run.specs.Due.{IsCheckFault, IsCheckStatus, IsDue, IsJudged, IsLegal, IsRunFault, IsRunStatus, exit_of}
 use Rattle.fiasco_run.specs.Served.{IsExact, IsExit, IsOrFault, IsPut, run_status, verdict_status}
 use Rattle.fiasco_run.specs.Headline.{ReportsLegal, ReportsRun}
+use Rattle.fiasco_run.proofs.Accepted.{judged_in, run_of}
 
 -- DONE
 
@@ -52,7 +53,7 @@ check_refused : (bytes : List ℕ) (f : ScriptFault) → IsCheckFault (Some byte
 check_refused bytes f h = rw h.is_given (inr (h.small, rw h.refused refl))
 
 judged : (bytes : List ℕ) (v : Verdict) (e : Exit) → IsJudged (Some bytes) v → e ≡ verdict_status v → IsExit call.Check bytes e
-judged bytes v e h s = rw h.is_given (inr (h.verdict.small, rw h.verdict.accepted (record { script = h.verdict.script; spelled = h.verdict.spelled; verdict = v; judged = h.verdict.judged; status = s })))
+judged bytes v e h s = rw h.is_given (inr (h.verdict.small, rw (judged_in h.bytes v h.verdict) (record { script = h.verdict.script; spelled = h.verdict.spelled; verdict = v; judged = h.verdict.judged; status = s })))
 
 not_legal : (v : Verdict) → ¬ IsLegal v → exit.Illegal v ≡ verdict_status v
 not_legal (verdict.Legal n) h = absurd (h tt)
@@ -75,7 +76,7 @@ check_exit exit.NoMemory bytes a b write h = tt
 check_exit (exit.Illegal v) bytes a b write h = judged bytes v (exit.Illegal v) h.1 (not_legal v h.0)
 
 due_exit : (c : Call) (d : Due) (bytes : List ℕ) (a b : ℕ) (write : Type 0) → IsDue (Some c) (Some bytes) a b d → IsOrFault (exit_of d) (IsExit c bytes) (Rose a b) write
-due_exit call.Run (due.Report end) bytes a b write h = rw h.is_given (inr (h.run.small, rw h.run.accepted refl))
+due_exit call.Run (due.Report end) bytes a b write h = rw h.is_given (inr (h.run.small, rw (run_of h.bytes _ _ _ h.run) refl))
 due_exit call.Run (due.Legal n) bytes a b write h = absurd h
 due_exit call.Run (due.Status s) bytes a b write h = run_exit s bytes a b write h
 due_exit call.Check (due.Report end) bytes a b write h = absurd h

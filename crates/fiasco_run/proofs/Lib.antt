@@ -1,3 +1,4 @@
 pub mod Serves
+pub mod Accepted
 pub mod Exact
 pub mod One

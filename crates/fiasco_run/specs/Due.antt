@@ -22,19 +22,19 @@ use Rattle.fiasco_run.specs.declared.due.Due.{Due}
 use Rattle.fiasco_run.specs.declared.due.Due.TheVariants as due
 use Rattle.fiasco_run.specs.Exits.{exit_text}
 use Rattle.k_reader.specs.Refused.{script_fault}
-use Rattle.fiasco_run.specs.Scripts.{IsScriptOf, run_fault}
+use Rattle.fiasco_run.specs.Scripts.{IsRunnable, IsScriptOf, run_fault}
 
 -- The bytes that the source had left, where it tells them, are these.
 abbrev pub IsGiven : Option (List ℕ) → List ℕ → Type 0
 IsGiven given bytes = IfSome given (λ left. left ≡ bytes)
 
--- RUN. Done: the bytes are a text of a script within the limits; this is a legal, playing, finished history of the script,
+-- RUN. Done: the bytes are a text of a script within the limits, of the kind that is run; this is a legal, playing, finished history of the script,
 -- and these are the replies of its replay, by number, version and serial, and its final statuses.
 pub record IsRunOfBytes (bytes : List ℕ) (history : List Entry) (replies : List ReplyLine) (finals : List Found) : Type 0 where
   pub small : length bytes ≤ most_bytes
-  pub accepted : run_fault bytes ≡ None
   pub script : Script
   pub spelled : IsScriptOf bytes script
+  pub runnable : IsRunnable script
   pub run : IsRun script history replies finals
 
 pub record IsRunOf (given : Option (List ℕ)) (history : List Entry) (replies : List ReplyLine) (finals : List Found) : Type 0 where
@@ -69,7 +69,6 @@ IsRunStatus given before now (exit.Illegal v) = ⊥
 -- it.
 pub record IsJudgedIn (bytes : List ℕ) (v : Verdict) : Type 0 where
   pub small : ¬ IsInputLarge bytes
-  pub accepted : script_fault (script_part bytes) ≡ None
   pub script : Script
   pub spelled : IsScriptOf (script_part bytes) script
   pub judged : IsVerdict script (history_part bytes) v

@@ -1,5 +1,5 @@
 -- The script that bytes spell, or why they spell none that is run.
-use Rattle.std.specs.Prelude.{◌≡◌, ◌≤◌, ℕ, List, Option, Some, None}
+use Rattle.std.specs.Prelude.{◌≡◌, ◌≤◌, ℕ, List, [], Option, Some, None}
 use Rattle.k_input.specs.declared.fault.InputFault.{InputFault}
 use Rattle.k_input.specs.declared.fault.InputFault.TheVariants as input_fault
 use Rattle.k_script.specs.Script.{Script}
@@ -29,6 +29,13 @@ run_fault bytes = or_else (script_fault bytes) (later_fault (later_line bytes))
 pub record IsScriptOf (bytes : List ℕ) (script : Script) : Type 0 where
   pub text : IsText bytes script
   pub short : weight_of script ≤ most_weight
+
+-- The script is of the kind that is run: of version 1, with one carrier and no schedule.
+pub record IsRunnable (script : Script) : Type 0 where
+  pub version : script.version ≡ 1
+  pub carriers : script.carriers ≡ 1
+  pub at_lines : script.at_lines ≡ []
+  pub turns : script.turns ≡ []
 
 -- A status says why no script was had: for this reason, or for want of memory, which is free.
 abbrev pub IsRefusedBy : Option ScriptFault → Exit → Type 0

@@ -1,7 +1,15 @@
 // Laws of the definitions.
-ghost use Rattle.std.specs.Prelude.{◌≡◌, List, ℕ};
+ghost use Rattle.std.specs.Prelude.{◌≡◌, List, ℕ, None};
+ghost use Rattle.k_ids.specs.declared.threads.Found.{Found};
+ghost use Rattle.k_ids.specs.declared.histories.Entry.{Entry};
+ghost use Rattle.k_ids.specs.declared.histories.ReplyLine.{ReplyLine};
+ghost use Rattle.k_input.specs.Division.{script_part};
+ghost use Rattle.k_reader.specs.Refused.{script_fault};
+ghost use Rattle.k_history.specs.declared.verdict.Verdict.{Verdict};
 ghost use Rattle.fiasco_run.specs.declared.call.Call.{Call};
 ghost use Rattle.fiasco_run.specs.declared.exit.Exit.{Exit};
+ghost use Rattle.fiasco_run.specs.Scripts.{run_fault};
+ghost use Rattle.fiasco_run.specs.Due.{IsRunOfBytes, IsJudgedIn};
 ghost use Rattle.fiasco_run.specs.Served.{IsExit};
 
 use k_history::a_history_has_one_verdict;
@@ -15,3 +23,10 @@ pub fn bytes_call_for_one_status()
     a_text_is_read();
     a_history_has_one_verdict();
 }
+
+/// Bytes of which a run is told have no fault, not even a line that can't be run yet; and what stands before the line `--` of an
+/// input that is judged has none.
+pub fn what_is_served_is_accepted()
+    ensures run { (bytes : List ℕ) (history : List Entry) (replies : List ReplyLine) (finals : List Found) → IsRunOfBytes bytes history replies finals → run_fault bytes ≡ None }
+    ensures check { (bytes : List ℕ) (v : Verdict) → IsJudgedIn bytes v → script_fault (script_part bytes) ≡ None }
+{}

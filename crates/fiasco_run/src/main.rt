@@ -26,7 +26,7 @@ pub use arguments::serve_arguments;
 pub use call::Call;
 pub use exit::Exit;
 use k_outside::{StdSink, StdSource};
-pub use laws::bytes_call_for_one_status;
+pub use laws::{bytes_call_for_one_status, what_is_served_is_accepted};
 pub use serve::top;
 use std::process::ExitCode;
 use std::{env, io};

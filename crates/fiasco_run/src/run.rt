@@ -30,6 +30,7 @@ pub(crate) fn script_in(alloc: Global, bytes: &[u8]) -> Result<Script, Exit>
 }
 
 /// Runs the script that these bytes spell, unless it has a line that can't be run yet.
+#[tactic(auto, using(crate::proofs::Accepted::run_had))]
 fn run_bytes(alloc: Global, bytes: &[u8]) -> Result<RunEnd, Exit>
     requires { length bytes.now ≤ 1048576 }
     ensures run { IfOk result (λ end. IsRunOfBytes bytes.now end.history.items end.replies.items end.finals.items) }

@@ -16,7 +16,7 @@ use Rattle.k_ids.specs.declared.histories.ReplyLine.{ReplyLine}
 use Rattle.k_play.specs.Reports.{IsRun}
 use Rattle.k_history.specs.declared.verdict.Verdict.{Verdict}
 use Rattle.fiasco_run.specs.Scripts.{IsRunnable, IsScriptOf, run_fault}
-use Rattle.fiasco_run.specs.Due.{IsJudgedIn, IsRunOfBytes}
+use Rattle.fiasco_run.specs.Due.{IsVerdictOnBytes, IsRunOfBytes}
 
 pub script_accepted : (bytes : List ℕ) (s : Script) → IsScriptOf bytes s → script_fault bytes ≡ None
 script_accepted bytes s h =
@@ -39,5 +39,5 @@ run_accepted bytes s h r = rw (script_accepted bytes s h) (rw (all-run bytes s h
 pub run_of : (bytes : List ℕ) (history : List Entry) (replies : List ReplyLine) (finals : List Found) → IsRunOfBytes bytes history replies finals → run_fault bytes ≡ None
 run_of bytes history replies finals h = run_accepted bytes h.script h.spelled h.runnable
 
-pub judged_in : (bytes : List ℕ) (v : Verdict) → IsJudgedIn bytes v → script_fault (script_part bytes) ≡ None
+pub judged_in : (bytes : List ℕ) (v : Verdict) → IsVerdictOnBytes bytes v → script_fault (script_part bytes) ≡ None
 judged_in bytes v h = script_accepted (script_part bytes) h.script h.spelled

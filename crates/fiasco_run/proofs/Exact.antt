@@ -11,21 +11,21 @@ use Rattle.fiasco_run.specs.declared.exit.Exit.{Exit}
 use Rattle.fiasco_run.specs.declared.exit.Exit.TheVariants as exit
 use Rattle.fiasco_run.specs.declared.due.Due.{Due}
 use Rattle.fiasco_run.specs.declared.due.Due.TheVariants as due
-use Rattle.fiasco_run.specs.Due.{IsCheckFault, IsCheckStatus, IsDue, IsJudged, IsLegal, IsRunFault, IsRunStatus, exit_of}
+use Rattle.fiasco_run.specs.Due.{IsCheckFault, IsCheckStatus, ComesTo, IsVerdictOnSource, SaysLegal, IsRunFault, IsRunStatus, exit_of}
 use Rattle.fiasco_run.specs.Served.{IsExact, IsExit, IsOrFault, IsPut, run_status, verdict_status}
 use Rattle.fiasco_run.specs.Headline.{ReportsLegal, ReportsRun}
 use Rattle.fiasco_run.proofs.Accepted.{judged_in, run_of}
 
 -- DONE
 
-pub reports_run : (d : Due) (r : Exit) (given held holds : Option (List ℕ)) (a b before now : ℕ) → IsDue (Some call.Run) given a b d → IsPut r d held holds before now → r ≡ exit.Done → ReportsRun given held holds
+pub reports_run : (d : Due) (r : Exit) (given held holds : Option (List ℕ)) (a b before now : ℕ) → ComesTo (Some call.Run) given a b d → IsPut r d held holds before now → r ≡ exit.Done → ReportsRun given held holds
 reports_run (due.Report end) r given held holds a b before now h (inl p) e = record { history = end.history.items; replies = end.replies.items; finals = end.finals.items; run = h; put = p.1 }
 reports_run (due.Report end) r given held holds a b before now h (inr p) e = let no : exit.Done ≡ exit.WriteFault = sym e ∙ p.0 in absurd cc
 reports_run (due.Legal n) r given held holds a b before now h p e = absurd h
 reports_run (due.Status s) r given held holds a b before now h (inl p) e = absurd (subst (IsRunStatus given a b) (sym p.0 ∙ e) h)
 reports_run (due.Status s) r given held holds a b before now h (inr p) e = let no : exit.Done ≡ exit.WriteFault = sym e ∙ p.0 in absurd cc
 
-pub reports_legal : (d : Due) (r : Exit) (given held holds : Option (List ℕ)) (a b before now : ℕ) → IsDue (Some call.Check) given a b d → IsPut r d held holds before now → r ≡ exit.Done → ReportsLegal given held holds
+pub reports_legal : (d : Due) (r : Exit) (given held holds : Option (List ℕ)) (a b before now : ℕ) → ComesTo (Some call.Check) given a b d → IsPut r d held holds before now → r ≡ exit.Done → ReportsLegal given held holds
 reports_legal (due.Report end) r given held holds a b before now h p e = absurd h
 reports_legal (due.Legal n) r given held holds a b before now h (inl p) e = record { events = n; legal = h; put = p.1 }
 reports_legal (due.Legal n) r given held holds a b before now h (inr p) e = let no : exit.Done ≡ exit.WriteFault = sym e ∙ p.0 in absurd cc
@@ -52,10 +52,10 @@ run_exit (exit.Illegal v) bytes a b write h = absurd h
 check_refused : (bytes : List ℕ) (f : ScriptFault) → IsCheckFault (Some bytes) f → IsExit call.Check bytes (exit.Refused f)
 check_refused bytes f h = rw h.is_given (inr (h.small, rw h.refused refl))
 
-judged : (bytes : List ℕ) (v : Verdict) (e : Exit) → IsJudged (Some bytes) v → e ≡ verdict_status v → IsExit call.Check bytes e
+judged : (bytes : List ℕ) (v : Verdict) (e : Exit) → IsVerdictOnSource (Some bytes) v → e ≡ verdict_status v → IsExit call.Check bytes e
 judged bytes v e h s = rw h.is_given (inr (h.verdict.small, rw (judged_in h.bytes v h.verdict) (record { script = h.verdict.script; spelled = h.verdict.spelled; verdict = v; judged = h.verdict.judged; status = s })))
 
-not_legal : (v : Verdict) → ¬ IsLegal v → exit.Illegal v ≡ verdict_status v
+not_legal : (v : Verdict) → ¬ SaysLegal v → exit.Illegal v ≡ verdict_status v
 not_legal (verdict.Legal n) h = absurd (h tt)
 not_legal (verdict.Unreadable line) h = refl
 not_legal (verdict.Illegal index found serial) h = refl
@@ -75,7 +75,7 @@ check_exit exit.WriteFault bytes a b write h = absurd h
 check_exit exit.NoMemory bytes a b write h = tt
 check_exit (exit.Illegal v) bytes a b write h = judged bytes v (exit.Illegal v) h.1 (not_legal v h.0)
 
-due_exit : (c : Call) (d : Due) (bytes : List ℕ) (a b : ℕ) (write : Type 0) → IsDue (Some c) (Some bytes) a b d → IsOrFault (exit_of d) (IsExit c bytes) (Rose a b) write
+due_exit : (c : Call) (d : Due) (bytes : List ℕ) (a b : ℕ) (write : Type 0) → ComesTo (Some c) (Some bytes) a b d → IsOrFault (exit_of d) (IsExit c bytes) (Rose a b) write
 due_exit call.Run (due.Report end) bytes a b write h = rw h.is_given (inr (h.run.small, rw (run_of h.bytes _ _ _ h.run) refl))
 due_exit call.Run (due.Legal n) bytes a b write h = absurd h
 due_exit call.Run (due.Status s) bytes a b write h = run_exit s bytes a b write h
@@ -83,23 +83,23 @@ due_exit call.Check (due.Report end) bytes a b write h = absurd h
 due_exit call.Check (due.Legal n) bytes a b write h = judged bytes (verdict.Legal n) exit.Done h refl
 due_exit call.Check (due.Status s) bytes a b write h = check_exit s bytes a b write h
 
-exact_of : (c : Call) (d : Due) (r : Exit) (given held holds : Option (List ℕ)) (a b before now : ℕ) → IsDue (Some c) given a b d → IsPut r d held holds before now → IsExact (Some c) r given (Rose a b) (Rose before now)
+exact_of : (c : Call) (d : Due) (r : Exit) (given held holds : Option (List ℕ)) (a b before now : ℕ) → ComesTo (Some c) given a b d → IsPut r d held holds before now → IsExact (Some c) r given (Rose a b) (Rose before now)
 exact_of c d r None held holds a b before now h p = tt
 exact_of c d r (Some bytes) held holds a b before now h (inl p) = rw p.0 (due_exit c d bytes a b (Rose before now) h)
 exact_of c d r (Some bytes) held holds a b before now h (inr p) = rw p.0 p.2
 
-unserved : (d : Due) (r : Exit) (given held holds : Option (List ℕ)) (a b before now : ℕ) → IsDue None given a b d → IsPut r d held holds before now → IsExact None r given (Rose a b) (Rose before now)
+unserved : (d : Due) (r : Exit) (given held holds : Option (List ℕ)) (a b before now : ℕ) → ComesTo None given a b d → IsPut r d held holds before now → IsExact None r given (Rose a b) (Rose before now)
 unserved (due.Report end) r given held holds a b before now h p = absurd h
 unserved (due.Legal n) r given held holds a b before now h p = absurd h
 unserved (due.Status s) r given held holds a b before now h (inl p) = inl (p.0 ∙ h)
 unserved (due.Status s) r given held holds a b before now h (inr p) = inr (p.0, p.2)
 
-pub exact : (asked : Option Call) (d : Due) (r : Exit) (given held holds : Option (List ℕ)) (a b before now : ℕ) → IsDue asked given a b d → IsPut r d held holds before now → IsExact asked r given (Rose a b) (Rose before now)
+pub exact : (asked : Option Call) (d : Due) (r : Exit) (given held holds : Option (List ℕ)) (a b before now : ℕ) → ComesTo asked given a b d → IsPut r d held holds before now → IsExact asked r given (Rose a b) (Rose before now)
 exact None d r given held holds a b before now h p = unserved d r given held holds a b before now h p
 exact (Some c) d r given held holds a b before now h p = exact_of c d r given held holds a b before now h p
 
-pub run_done : (asked : Option Call) (d : Due) (r : Exit) (given held holds : Option (List ℕ)) (a b before now : ℕ) → IsDue asked given a b d → IsPut r d held holds before now → asked ≡ Some call.Run → r ≡ exit.Done → ReportsRun given held holds
-run_done asked d r given held holds a b before now h p s e = reports_run d r given held holds a b before now (subst (λ (o : Option Call). IsDue o given a b d) s h) p e
+pub run_done : (asked : Option Call) (d : Due) (r : Exit) (given held holds : Option (List ℕ)) (a b before now : ℕ) → ComesTo asked given a b d → IsPut r d held holds before now → asked ≡ Some call.Run → r ≡ exit.Done → ReportsRun given held holds
+run_done asked d r given held holds a b before now h p s e = reports_run d r given held holds a b before now (subst (λ (o : Option Call). ComesTo o given a b d) s h) p e
 
-pub check_done : (asked : Option Call) (d : Due) (r : Exit) (given held holds : Option (List ℕ)) (a b before now : ℕ) → IsDue asked given a b d → IsPut r d held holds before now → asked ≡ Some call.Check → r ≡ exit.Done → ReportsLegal given held holds
-check_done asked d r given held holds a b before now h p s e = reports_legal d r given held holds a b before now (subst (λ (o : Option Call). IsDue o given a b d) s h) p e
+pub check_done : (asked : Option Call) (d : Due) (r : Exit) (given held holds : Option (List ℕ)) (a b before now : ℕ) → ComesTo asked given a b d → IsPut r d held holds before now → asked ≡ Some call.Check → r ≡ exit.Done → ReportsLegal given held holds
+check_done asked d r given held holds a b before now h p s e = reports_legal d r given held holds a b before now (subst (λ (o : Option Call). ComesTo o given a b d) s h) p e

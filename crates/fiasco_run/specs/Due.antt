@@ -28,8 +28,8 @@ use Rattle.fiasco_run.specs.Scripts.{IsRunnable, IsScriptOf, run_fault}
 abbrev pub IsGiven : Option (List ℕ) → List ℕ → Type 0
 IsGiven given bytes = IfSome given (λ left. left ≡ bytes)
 
--- RUN. Done: the bytes are a text of a script within the limits, of the kind that is run; this is a legal, playing, finished history of the script,
--- and these are the replies of its replay, by number, version and serial, and its final statuses.
+-- RUN. Done: the bytes are a text of a script within the limits, of the kind that is run; this is a legal, playing, finished
+-- history of the script, and these are the replies of its replay, by number, version and serial, and its final statuses.
 pub record IsRunOfBytes (bytes : List ℕ) (history : List Entry) (replies : List ReplyLine) (finals : List Found) : Type 0 where
   pub small : length bytes ≤ most_bytes
   pub script : Script
@@ -37,7 +37,8 @@ pub record IsRunOfBytes (bytes : List ℕ) (history : List Entry) (replies : Lis
   pub runnable : IsRunnable script
   pub run : IsRun script history replies finals
 
-pub record IsRunOf (given : Option (List ℕ)) (history : List Entry) (replies : List ReplyLine) (finals : List Found) : Type 0 where
+-- This is a run of the script that the bytes of the source spell: of some bytes, which are the source's if it tells them.
+pub record IsRunOfSource (given : Option (List ℕ)) (history : List Entry) (replies : List ReplyLine) (finals : List Found) : Type 0 where
   pub bytes : List ℕ
   pub is_given : IsGiven given bytes
   pub run : IsRunOfBytes bytes history replies finals
@@ -49,13 +50,14 @@ pub record IsRunFault (given : Option (List ℕ)) (f : ScriptFault) : Type 0 whe
   pub small : length bytes ≤ most_bytes
   pub refused : run_fault bytes ≡ Some f
 
+-- Why no run is made of the source's bytes: they are too many, or they have this fault.
 abbrev pub IsRunRefusal : Option (List ℕ) → ScriptFault → Type 0
 IsRunRefusal given fault.TooLarge = IfSome given (λ bytes. most_bytes < length bytes)
 IsRunRefusal given (fault.Line line reason) = IsRunFault given (fault.Line line reason)
 IsRunRefusal given (fault.TooLong steps) = IsRunFault given (fault.TooLong steps)
 IsRunRefusal given fault.NoMemory = ⊥
 
--- Want of memory is free.
+-- The status has its cause, if `run` comes to a status: a refusal, or a fault of the source. Want of memory is free.
 abbrev pub IsRunStatus : Option (List ℕ) → ℕ → ℕ → Exit → Type 0
 IsRunStatus given before now exit.Done = ⊥
 IsRunStatus given before now (exit.Refused f) = IsRunRefusal given f
@@ -67,16 +69,17 @@ IsRunStatus given before now (exit.Illegal v) = ⊥
 
 -- CHECK. The bytes before the line `--` are a text of a script within the limits, and this is the verdict on the lines behind
 -- it.
-pub record IsJudgedIn (bytes : List ℕ) (v : Verdict) : Type 0 where
+pub record IsVerdictOnBytes (bytes : List ℕ) (v : Verdict) : Type 0 where
   pub small : ¬ IsInputLarge bytes
   pub script : Script
   pub spelled : IsScriptOf (script_part bytes) script
   pub judged : IsVerdict script (history_part bytes) v
 
-pub record IsJudged (given : Option (List ℕ)) (v : Verdict) : Type 0 where
+-- This is the verdict on the source's bytes: on some bytes, which are the source's if it tells them.
+pub record IsVerdictOnSource (given : Option (List ℕ)) (v : Verdict) : Type 0 where
   pub bytes : List ℕ
   pub is_given : IsGiven given bytes
-  pub verdict : IsJudgedIn bytes v
+  pub verdict : IsVerdictOnBytes bytes v
 
 -- The input is not too large, and this is why what stands before the line `--` is no script within the limits.
 pub record IsCheckFault (given : Option (List ℕ)) (f : ScriptFault) : Type 0 where
@@ -85,20 +88,24 @@ pub record IsCheckFault (given : Option (List ℕ)) (f : ScriptFault) : Type 0 w
   pub small : ¬ IsInputLarge bytes
   pub refused : script_fault (script_part bytes) ≡ Some f
 
+-- Why no history is judged of the source's bytes: they are too many, or their script has this fault.
 abbrev pub IsCheckRefusal : Option (List ℕ) → ScriptFault → Type 0
 IsCheckRefusal given fault.TooLarge = IfSome given IsInputLarge
 IsCheckRefusal given (fault.Line line reason) = IsCheckFault given (fault.Line line reason)
 IsCheckRefusal given (fault.TooLong steps) = IsCheckFault given (fault.TooLong steps)
 IsCheckRefusal given fault.NoMemory = ⊥
 
-abbrev pub IsLegal : Verdict → Type 0
-IsLegal (verdict.Legal events) = Unit {0}
-IsLegal (verdict.Unreadable line) = ⊥
-IsLegal (verdict.Illegal index found serial) = ⊥
-IsLegal (verdict.Strange index) = ⊥
-IsLegal (verdict.Differs index outcome) = ⊥
-IsLegal (verdict.Unfinished who) = ⊥
+-- The verdict is that the history is legal.
+abbrev pub SaysLegal : Verdict → Type 0
+SaysLegal (verdict.Legal events) = Unit {0}
+SaysLegal (verdict.Unreadable line) = ⊥
+SaysLegal (verdict.Illegal index found serial) = ⊥
+SaysLegal (verdict.Strange index) = ⊥
+SaysLegal (verdict.Differs index outcome) = ⊥
+SaysLegal (verdict.Unfinished who) = ⊥
 
+-- The status has its cause, if `check` comes to a status: a refusal, a fault of the source, a verdict other than legal. Want of
+-- memory is free.
 abbrev pub IsCheckStatus : Option (List ℕ) → ℕ → ℕ → Exit → Type 0
 IsCheckStatus given before now exit.Done = ⊥
 IsCheckStatus given before now (exit.Refused f) = IsCheckRefusal given f
@@ -106,25 +113,27 @@ IsCheckStatus given before now exit.Usage = ⊥
 IsCheckStatus given before now exit.ReadFault = Rose before now
 IsCheckStatus given before now exit.WriteFault = ⊥
 IsCheckStatus given before now exit.NoMemory = Unit {0}
-IsCheckStatus given before now (exit.Illegal v) = (¬ IsLegal v) × IsJudged given v
+IsCheckStatus given before now (exit.Illegal v) = (¬ SaysLegal v) × IsVerdictOnSource given v
 
--- WHAT IS DUE, by the call that the words ask for, the bytes, and the source's counts of faults before and now
-abbrev pub IsDue : Option Call → Option (List ℕ) → ℕ → ℕ → Due → Type 0
-IsDue None given before now (due.Report end) = ⊥
-IsDue None given before now (due.Legal events) = ⊥
-IsDue None given before now (due.Status e) = e ≡ exit.Usage
-IsDue (Some call.Run) given before now (due.Report end) = IsRunOf given end.history.items end.replies.items end.finals.items
-IsDue (Some call.Run) given before now (due.Legal events) = ⊥
-IsDue (Some call.Run) given before now (due.Status e) = IsRunStatus given before now e
-IsDue (Some call.Check) given before now (due.Report end) = ⊥
-IsDue (Some call.Check) given before now (due.Legal events) = IsJudged given (verdict.Legal events)
-IsDue (Some call.Check) given before now (due.Status e) = IsCheckStatus given before now e
+-- WHAT IS DUE. The call that the words ask for comes to this, by the bytes and the source's counts of faults before and now.
+abbrev pub ComesTo : Option Call → Option (List ℕ) → ℕ → ℕ → Due → Type 0
+ComesTo None given before now (due.Report end) = ⊥
+ComesTo None given before now (due.Legal events) = ⊥
+ComesTo None given before now (due.Status e) = e ≡ exit.Usage
+ComesTo (Some call.Run) given before now (due.Report end) = IsRunOfSource given end.history.items end.replies.items end.finals.items
+ComesTo (Some call.Run) given before now (due.Legal events) = ⊥
+ComesTo (Some call.Run) given before now (due.Status e) = IsRunStatus given before now e
+ComesTo (Some call.Check) given before now (due.Report end) = ⊥
+ComesTo (Some call.Check) given before now (due.Legal events) = IsVerdictOnSource given (verdict.Legal events)
+ComesTo (Some call.Check) given before now (due.Status e) = IsCheckStatus given before now e
 
+-- The status of a call that comes to this, if all of its text is put.
 abbrev pub exit_of : Due → Exit
 exit_of (due.Report end) = exit.Done
 exit_of (due.Legal events) = exit.Done
 exit_of (due.Status e) = e
 
+-- The text of what a call comes to.
 abbrev pub text_of : Due → List ℕ
 text_of (due.Report end) = report_text end.history.items end.replies.items end.finals.items
 text_of (due.Legal events) = verdict_text (verdict.Legal events)

@@ -9,6 +9,7 @@ use Rattle.k_history.specs.Verdicts.{verdict_text}
 use Rattle.fiasco_run.specs.declared.exit.Exit.{Exit}
 use Rattle.fiasco_run.specs.declared.exit.Exit.TheVariants as exit
 
+-- The exit status of the program: 0 to 6.
 abbrev pub exit_number : Exit → ℕ
 exit_number exit.Done = 0
 exit_number (exit.Refused fault) = 1
@@ -18,6 +19,7 @@ exit_number exit.WriteFault = 4
 exit_number exit.NoMemory = 5
 exit_number (exit.Illegal verdict) = 6
 
+-- The word for what is wrong with a line.
 abbrev pub why_word : Why → Word
 why_word why.Version = codes "version"
 why_word why.Word = codes "word"
@@ -29,6 +31,7 @@ why_word why.Table = codes "table"
 why_word why.Many = codes "many"
 why_word why.Later = codes "later"
 
+-- The words of the line that says why an input is refused.
 abbrev pub refusal_words : ScriptFault → List Word
 refusal_words fault.TooLarge = codes "refused" ∷ codes "too" ∷ codes "large" ∷ []
 refusal_words (fault.Line line reason) = codes "refused" ∷ codes "line" ∷ decimal line ∷ why_word reason ∷ []

@@ -13,15 +13,17 @@ use Rattle.k_reader.specs.Later.{later_line}
 use Rattle.fiasco_run.specs.declared.exit.Exit.{Exit}
 use Rattle.fiasco_run.specs.declared.exit.Exit.TheVariants as exit
 
+-- The fault of a line that cannot be run yet, if there is one.
 abbrev pub later_fault : Option ℕ → Option ScriptFault
 later_fault None = None
 later_fault (Some line) = Some (fault.Line line why.Later)
 
+-- The first fault if there is one, and else the other.
 abbrev pub or_else : Option ScriptFault → Option ScriptFault → Option ScriptFault
 or_else None other = other
 or_else (Some f) other = Some f
 
--- why they are not run: as before, or the first line with a word that cannot be run yet
+-- Why bytes are not run: they are no script within the limits, or the first line that cannot be run yet.
 abbrev pub run_fault : List ℕ → Option ScriptFault
 run_fault bytes = or_else (script_fault bytes) (later_fault (later_line bytes))
 
@@ -50,7 +52,7 @@ IsRefusedBy reason exit.WriteFault = ⊥
 IsRefusedBy reason exit.NoMemory = Unit {0}
 IsRefusedBy reason (exit.Illegal verdict) = ⊥
 
--- the status of a source that was not read to its end
+-- The status of a source that was not read to its end.
 abbrev pub input_exit : InputFault → Exit
 input_exit input_fault.Source = exit.ReadFault
 input_exit input_fault.TooLarge = exit.Refused fault.TooLarge

@@ -16,29 +16,48 @@ use Rattle.fiasco_run.specs.declared.exit.Exit.TheVariants as exit
 use Rattle.fiasco_run.specs.declared.due.Due.{Due}
 use Rattle.k_reader.specs.Refused.{script_fault}
 use Rattle.fiasco_run.specs.Scripts.{IsScriptOf, run_fault}
-use Rattle.fiasco_run.specs.Due.{IsDue, exit_of, text_of}
+use Rattle.fiasco_run.specs.Due.{ComesTo, exit_of, text_of}
 use Rattle.fiasco_run.specs.Exits.{exit_text}
+
+-- What a source was before a call and is after it: the bytes that are left, if it tells them, and its count of faults.
+pub record SourceUse : Type 0 where
+  pub given : Option (List ℕ)  -- left before
+  pub left : Option (List ℕ)  -- left after
+  pub before : ℕ  -- faults before
+  pub now : ℕ  -- faults after
+
+-- What a sink was before a call and is after it: the bytes that it holds, if it tells them, and its count of faults.
+pub record SinkUse : Type 0 where
+  pub held : Option (List ℕ)  -- held before
+  pub holds : Option (List ℕ)  -- held after
+  pub before : ℕ  -- faults before
+  pub now : ℕ  -- faults after
 
 -- HOW MUCH OF THE SOURCE is taken: nothing where the words ask for no call; all of it where the bytes were read; where they are
 -- too many, up to the first byte that makes it certain, or to the end where none does; and otherwise a front.
+
+-- All of the source was taken.
 abbrev pub TakesAll : Option (List ℕ) → Option (List ℕ) → Type 0
 TakesAll given left = IfSome given (λ _. left ≡ Some [])
 
--- as many bytes as a call takes at most
+-- How many bytes a call takes at most.
 abbrev pub most_taken : Call → ℕ
 most_taken call.Run = most_bytes + 1
 most_taken call.Check = most_input + 1
 
+-- What is taken if there are too many bytes for the call: up to the byte that makes it certain.
 abbrev pub TakesLarge : Call → Option (List ℕ) → Option (List ℕ) → Type 0
 TakesLarge call.Run given left = IsTooMuch given left
 TakesLarge call.Check given left = IsInputTooLarge given left
 
+-- What is taken if the input is refused for this fault.
 abbrev pub TakesRefused : Call → ScriptFault → Option (List ℕ) → Option (List ℕ) → Type 0
 TakesRefused c fault.TooLarge given left = TakesLarge c given left
 TakesRefused c (fault.Line line reason) given left = TakesAll given left
 TakesRefused c (fault.TooLong steps) given left = TakesAll given left
 TakesRefused c fault.NoMemory given left = IsPartTaken (most_taken c) given left
 
+-- What is taken if the call comes to this status.
 abbrev pub TakesStatus : Call → Exit → Option (List ℕ) → Option (List ℕ) → Type 0
 TakesStatus c exit.Done given left = TakesAll given left
 TakesStatus c (exit.Refused f) given left = TakesRefused c f given left
@@ -48,6 +67,7 @@ TakesStatus c exit.WriteFault given left = IsPartTaken (most_taken c) given left
 TakesStatus c exit.NoMemory given left = IsPartTaken (most_taken c) given left
 TakesStatus c (exit.Illegal v) given left = TakesAll given left
 
+-- What is taken if this is what is due.
 abbrev pub TakesFor : Option Call → Due → Option (List ℕ) → Option (List ℕ) → Type 0
 TakesFor None d given left = left ≡ given
 TakesFor (Some c) d given left = TakesStatus c (exit_of d) given left
@@ -58,29 +78,34 @@ IsPutText result status text held holds before now =
     ((result ≡ status) × Appends held holds text)
     ⊎ ((result ≡ exit.WriteFault) × AppendsFront held holds text × Rose before now)
 
+-- The text of what the call comes to was put, or a front of it and the sink failed.
 abbrev pub IsPut : Exit → Due → Option (List ℕ) → Option (List ℕ) → ℕ → ℕ → Type 0
 IsPut result d held holds before now = IsPutText result (exit_of d) (text_of d) held holds before now
 
 -- THE WHOLE CALL: what is due has its cause, so much of the source was taken, and this was put.
-pub record IsServed (asked : Option Call) (result : Exit) (given left : Option (List ℕ)) (read_before read_now : ℕ) (held holds : Option (List ℕ)) (put_before put_now : ℕ) : Type 0 where
+pub record IsServed (asked : Option Call) (result : Exit) (source : SourceUse) (sink : SinkUse) : Type 0 where
   pub what : Due
-  pub cause : IsDue asked given read_before read_now what
-  pub takes : TakesFor asked what given left
-  pub put : IsPut result what held holds put_before put_now
+  pub cause : ComesTo asked source.given source.before source.now what
+  pub takes : TakesFor asked what source.given source.left
+  pub put : IsPut result what sink.held sink.holds sink.before sink.now
 
 -- No call is served: the text of a status was put, or after a fault a front of it, and nothing of the source was taken.
-pub record IsPutAlone (result status : Exit) (given left held holds : Option (List ℕ)) (before now : ℕ) : Type 0 where
-  pub put : IsPutText result status (exit_text status) held holds before now
-  pub untouched : left ≡ given
+pub record IsPutAlone (result status : Exit) (source : SourceUse) (sink : SinkUse) : Type 0 where
+  pub put : IsPutText result status (exit_text status) sink.held sink.holds sink.before sink.now
+  pub untouched : source.left ≡ source.given
 
 -- THE STATUS THAT BYTES CALL FOR
+
+-- The status of a run of bytes that have this fault, or none.
 abbrev pub run_status : Option ScriptFault → Exit
 run_status None = exit.Done
 run_status (Some f) = exit.Refused f
 
+-- The status that `run` has for these bytes.
 abbrev pub IsRunExit : List ℕ → Exit → Type 0
 IsRunExit bytes e = ((most_bytes < length bytes) × (e ≡ exit.Refused fault.TooLarge)) ⊎ ((length bytes ≤ most_bytes) × (e ≡ run_status (run_fault bytes)))
 
+-- The status of this verdict.
 abbrev pub verdict_status : Verdict → Exit
 verdict_status (verdict.Legal events) = exit.Done
 verdict_status (verdict.Unreadable line) = exit.Illegal (verdict.Unreadable line)
@@ -89,6 +114,7 @@ verdict_status (verdict.Strange index) = exit.Illegal (verdict.Strange index)
 verdict_status (verdict.Differs index outcome) = exit.Illegal (verdict.Differs index outcome)
 verdict_status (verdict.Unfinished who) = exit.Illegal (verdict.Unfinished who)
 
+-- The status is that of the verdict on the history behind the line `--`.
 pub record IsVerdictExit (bytes : List ℕ) (e : Exit) : Type 0 where
   pub script : Script
   pub spelled : IsScriptOf (script_part bytes) script
@@ -96,14 +122,16 @@ pub record IsVerdictExit (bytes : List ℕ) (e : Exit) : Type 0 where
   pub judged : IsVerdict script (history_part bytes) verdict
   pub status : e ≡ verdict_status verdict
 
+-- The status that `check` has for these bytes, if their script has this fault, or none.
 abbrev pub IsPartExit : Option ScriptFault → List ℕ → Exit → Type 0
 IsPartExit None bytes e = IsVerdictExit bytes e
 IsPartExit (Some f) bytes e = e ≡ exit.Refused f
 
+-- The status that `check` has for these bytes.
 abbrev pub IsCheckExit : List ℕ → Exit → Type 0
 IsCheckExit bytes e = (IsInputLarge bytes × (e ≡ exit.Refused fault.TooLarge)) ⊎ ((¬ IsInputLarge bytes) × IsPartExit (script_fault (script_part bytes)) bytes e)
 
--- the one status that these bytes call for
+-- The one status that these bytes call for.
 abbrev pub IsExit : Call → List ℕ → Exit → Type 0
 IsExit call.Run bytes e = IsRunExit bytes e
 IsExit call.Check bytes e = IsCheckExit bytes e
@@ -118,6 +146,7 @@ IsOrFault exit.WriteFault P read write = write
 IsOrFault exit.NoMemory P read write = Unit {0}
 IsOrFault (exit.Illegal v) P read write = P (exit.Illegal v)
 
+-- The call asked for has the status that the bytes call for, or there was no memory or the outside failed.
 abbrev pub IsExact : Option Call → Exit → Option (List ℕ) → Type 0 → Type 0 → Type 0
 IsExact None e given read write = (e ≡ exit.Usage) ⊎ ((e ≡ exit.WriteFault) × write)
 IsExact (Some c) e given read write = IfSome given (λ bytes. IsOrFault e (IsExit c bytes) read write)

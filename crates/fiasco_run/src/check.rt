@@ -2,7 +2,7 @@
 ghost use Rattle.std.specs.Prelude.{◌≡◌, ◌≤◌, length, IfErr, IfOk};
 ghost use Rattle.k_input.specs.Division.{script_part, history_part, IsInputLarge};
 ghost use Rattle.k_history.specs.declared.verdict.Verdict.TheVariants as verdict;
-ghost use Rattle.fiasco_run.specs.Due.{IsCheckStatus, IsJudged, IsJudgedIn};
+ghost use Rattle.fiasco_run.specs.Due.{IsCheckStatus, IsVerdictOnSource, IsVerdictOnBytes};
 ghost use Rattle.k_reader.specs.Refused.{script_fault};
 ghost use Rattle.fiasco_run.specs.Scripts.{IsRefusedBy};
 ghost use Rattle.fiasco_run.specs.Served.{TakesAll, TakesStatus};
@@ -18,7 +18,7 @@ use std::alloc::Global;
 /// Judges the history of an input by its script.
 fn judge_bytes(alloc: Global, bytes: &[u8]) -> Result<Verdict, Exit>
     requires { ¬ IsInputLarge bytes.now }
-    ensures judged { IfOk result (IsJudgedIn bytes.now) }
+    ensures judged { IfOk result (IsVerdictOnBytes bytes.now) }
     ensures refused { IfErr result (IsRefusedBy (script_fault (script_part bytes.now))) }
 {
     let (first, second) = divide(bytes);
@@ -27,7 +27,7 @@ fn judge_bytes(alloc: Global, bytes: &[u8]) -> Result<Verdict, Exit>
 }
 
 fn judge_source<S: Source>(alloc: Global, source: &mut S) -> Result<Verdict, Exit>
-    ensures judged { IfOk result (IsJudged (S.left source.old)) }
+    ensures judged { IfOk result (IsVerdictOnSource (S.left source.old)) }
     ensures status { IfErr result (IsCheckStatus (S.left source.old) (S.faults source.old) (S.faults source.new)) }
     ensures all { IfOk result (λ _. TakesAll (S.left source.old) (S.left source.new)) }
     ensures takes { IfErr result (λ exit. TakesStatus call.Check exit (S.left source.old) (S.left source.new)) }
@@ -41,7 +41,7 @@ fn judge_source<S: Source>(alloc: Global, source: &mut S) -> Result<Verdict, Exi
 
 /// Reads the source, and judges its history by its script: how many events it has, where it is legal.
 pub(crate) fn check_source<S: Source>(alloc: Global, source: &mut S) -> Result<u32, Exit>
-    ensures legal { IfOk result (λ events. IsJudged (S.left source.old) (verdict.Legal events)) }
+    ensures legal { IfOk result (λ events. IsVerdictOnSource (S.left source.old) (verdict.Legal events)) }
     ensures status { IfErr result (IsCheckStatus (S.left source.old) (S.faults source.old) (S.faults source.new)) }
     ensures all { IfOk result (λ _. TakesAll (S.left source.old) (S.left source.new)) }
     ensures takes { IfErr result (λ exit. TakesStatus call.Check exit (S.left source.old) (S.left source.new)) }

@@ -9,7 +9,7 @@ ghost use Rattle.k_history.specs.declared.verdict.Verdict.{Verdict};
 ghost use Rattle.fiasco_run.specs.declared.call.Call.{Call};
 ghost use Rattle.fiasco_run.specs.declared.exit.Exit.{Exit};
 ghost use Rattle.fiasco_run.specs.Scripts.{run_fault};
-ghost use Rattle.fiasco_run.specs.Due.{IsRunOfBytes, IsJudgedIn};
+ghost use Rattle.fiasco_run.specs.Due.{IsRunOfBytes, IsVerdictOnBytes};
 ghost use Rattle.fiasco_run.specs.Served.{IsExit};
 
 use k_history::a_history_has_one_verdict;
@@ -28,5 +28,5 @@ pub fn bytes_call_for_one_status()
 /// input that is judged has none.
 pub fn what_is_served_is_accepted()
     ensures run { (bytes : List ℕ) (history : List Entry) (replies : List ReplyLine) (finals : List Found) → IsRunOfBytes bytes history replies finals → run_fault bytes ≡ None }
-    ensures check { (bytes : List ℕ) (v : Verdict) → IsJudgedIn bytes v → script_fault (script_part bytes) ≡ None }
+    ensures check { (bytes : List ℕ) (v : Verdict) → IsVerdictOnBytes bytes v → script_fault (script_part bytes) ≡ None }
 {}

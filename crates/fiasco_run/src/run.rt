@@ -3,7 +3,7 @@ ghost use Rattle.std.specs.Prelude.{◌≡◌, ◌≤◌, length, None, IfErr, I
 ghost use Rattle.k_input.specs.Taken.{IsPartTaken};
 ghost use Rattle.k_reader.specs.Refused.{script_fault};
 ghost use Rattle.fiasco_run.specs.Scripts.{IsRefusedBy, IsScriptOf, input_exit, run_fault};
-ghost use Rattle.fiasco_run.specs.Due.{IsRunOf, IsRunOfBytes, IsRunStatus};
+ghost use Rattle.fiasco_run.specs.Due.{IsRunOfSource, IsRunOfBytes, IsRunStatus};
 ghost use Rattle.fiasco_run.specs.Served.{TakesAll, TakesStatus};
 ghost use Rattle.fiasco_run.specs.declared.call.Call.TheVariants as call;
 
@@ -50,7 +50,7 @@ fn run_bytes(alloc: Global, bytes: &[u8]) -> Result<RunEnd, Exit>
 
 /// Reads the source and runs the script that its bytes spell.
 pub(crate) fn run_source<S: Source>(alloc: Global, source: &mut S) -> Result<RunEnd, Exit>
-    ensures run { IfOk result (λ end. IsRunOf (S.left source.old) end.history.items end.replies.items end.finals.items) }
+    ensures run { IfOk result (λ end. IsRunOfSource (S.left source.old) end.history.items end.replies.items end.finals.items) }
     ensures status { IfErr result (IsRunStatus (S.left source.old) (S.faults source.old) (S.faults source.new)) }
     ensures all { IfOk result (λ _. TakesAll (S.left source.old) (S.left source.new)) }
     ensures takes { IfErr result (λ exit. TakesStatus call.Run exit (S.left source.old) (S.left source.new)) }

@@ -6,7 +6,7 @@ ghost use Rattle.k_history.specs.Verdicts.{verdict_text};
 ghost use Rattle.k_history.specs.declared.verdict.Verdict.TheVariants as verdict;
 ghost use Rattle.fiasco_run.specs.Calls.{call_of};
 ghost use Rattle.fiasco_run.specs.Exits.{exit_text};
-ghost use Rattle.fiasco_run.specs.Due.{IsDue};
+ghost use Rattle.fiasco_run.specs.Due.{ComesTo};
 ghost use Rattle.fiasco_run.specs.Served.{IsExact, IsPut, IsPutText, IsServed, TakesFor};
 ghost use Rattle.fiasco_run.specs.Headline.{ReportsRun, ReportsLegal};
 ghost use Rattle.fiasco_run.specs.declared.call.Call.TheVariants as call;
@@ -65,7 +65,7 @@ fn put_due<K: Sink>(due: &Due, sink: &mut K) -> Exit
 
 /// What is due by the words and the source.
 fn due<S: Source>(alloc: Global, words: &[String], source: &mut S) -> Due
-    ensures cause { IsDue (call_of (map string_bytes words.now)) (S.left source.old) (S.faults source.old) (S.faults source.new) result }
+    ensures cause { ComesTo (call_of (map string_bytes words.now)) (S.left source.old) (S.faults source.old) (S.faults source.new) result }
     ensures takes { TakesFor (call_of (map string_bytes words.now)) result (S.left source.old) (S.left source.new) }
     ensures later { S.faults source.old ≤ S.faults source.new }
 {
@@ -102,7 +102,7 @@ pub fn top<S: Source, K: Sink>(
     ensures check { call_of (map string_bytes words.now) ≡ Some call.Check → result ≡ Exit.Done → ReportsLegal (S.left source.old) (K.held sink.old) (K.held sink.new) }
 
     // The whole call: every status with its cause, what was taken, and what was put.
-    ensures served { IsServed (call_of (map string_bytes words.now)) result (S.left source.old) (S.left source.new) (S.faults source.old) (S.faults source.new) (K.held sink.old) (K.held sink.new) (K.faults sink.old) (K.faults sink.new) }
+    ensures served { IsServed (call_of (map string_bytes words.now)) result (record { given = S.left source.old; left = S.left source.new; before = S.faults source.old; now = S.faults source.new }) (record { held = K.held sink.old; holds = K.held sink.new; before = K.faults sink.old; now = K.faults sink.new }) }
 
     // Exactly where: the status is the one that the bytes call for, unless there was no memory or the outside failed.
     ensures exact { IsExact (call_of (map string_bytes words.now)) result (S.left source.old) (Rose (S.faults source.old) (S.faults source.new)) (Rose (K.faults sink.old) (K.faults sink.new)) }

@@ -184,26 +184,6 @@ won_keeps c h (Release release.Gone) = refl
 won_keeps c h (Release release.Nobody) = refl
 won_keeps c h (Release release.Dead) = refl
 
-pub loaded_keeps : (c : ReceiveCall) (h : Hand) (p : ReceiveLocked) (w : StateWord) → hand_after c h (Locked p) (Word w) ≡ h
-loaded_keeps c h LoadOwn v = refl
-loaded_keeps c h (LoadSender d) v = refl
-loaded_keeps c h (FreeSender d w) v = refl
-loaded_keeps c h (AcquireReady d) v = refl
-loaded_keeps c h CommitWait v = refl
-loaded_keeps c h (LoadPartner from) v = refl
-loaded_keeps c h (CommitGone from) v = refl
-loaded_keeps c h LoadPicking v = refl
-loaded_keeps c h (LoadNext d) v = refl
-loaded_keeps c h (FreeNext d w) v = refl
-loaded_keeps c h (EndPick d w) v = refl
-loaded_keeps c h SettlePick v = refl
-loaded_keeps c h (Release (release.Taken d)) v = refl
-loaded_keeps c h (Release release.Waits) v = refl
-loaded_keeps c h (Release release.Delivered) v = refl
-loaded_keeps c h (Release release.Gone) v = refl
-loaded_keeps c h (Release release.Nobody) v = refl
-loaded_keeps c h (Release release.Dead) v = refl
-
 -- HOW A SECTION GOES ON
 
 dead_ends : (w : StateWord) (r : Reply) → goes_on (alive_or_dead w r) ≡ false

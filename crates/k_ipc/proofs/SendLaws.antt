@@ -1,12 +1,11 @@
 -- The table of a send: what holds of each location.
-use Rattle.std.proofs.Common.{◌≡◌, ℕ, Bool, true, false, Option, Some, None, refl, sym, ◌∙◌}
+use Rattle.std.proofs.Common.{◌≡◌, ℕ, Bool, true, false, Option, None, refl, sym, ◌∙◌}
 use Rattle.std.proofs.lemmas.Bool.{cond_both, false≢true}
 use Rattle.std.specs.Prelude.{if◌then◌else◌}
 use Rattle.k_ids.specs.declared.calls.Reply.{Reply}
 use Rattle.k_ids.specs.declared.calls.Reply.TheVariants as reply
 use Rattle.k_ids.specs.declared.state_word.StateWord.{StateWord}
 use Rattle.k_ids.specs.StateWords.{state_word_of}
-use Rattle.k_locks.specs.declared.points.Point.{Point}
 use Rattle.k_locks.specs.declared.steps.Answer.{Answer}
 use Rattle.k_locks.specs.Asks as asks
 use Rattle.k_locks.specs.Asks.{Response, Got, Released, Won, Word, loaded}

@@ -65,6 +65,6 @@ print(sorted(it for it in found if 0 <= it[0] < 127))
 END
 )
 usage='usage: fiasco_run run, check, big N, carry M'
-ends 'no memory for the words' $? 0 "$text" "[(2, b'$usage\\n'), (5, b'')]"
+ends 'no memory for the words' $? 0 "$text" "[(2, b'$usage\\n'), (5, b'no memory\\n')]"
 
 exit $failed

@@ -2,8 +2,8 @@
 use Rattle.std.proofs.Common.{◌≡◌, ℕ, ◌+◌, ◌-◌, ◌<◌, List, [], ◌∷◌, length, take, drop, refl, ap, ◌∙◌, arith, Some, None, position}
 use Rattle.std.specs.List.{slice_split}
 use Rattle.std.proofs.lemmas.List.Splits.{length-slice_split}
+use Rattle.k_lists.proofs.Cuts.{cut_none, cut_some}
 use Rattle.k_lines.specs.Words.{is_line_feed, ended_lines, lines_of}
-use Rattle.k_lines.proofs.Cut.{cut_none, cut_some}
 
 ended-cons : (line : List ℕ) (lines : List (List ℕ)) → 0 < length lines → ended_lines (line ∷ lines) ≡ line ∷ ended_lines lines
 ended-cons [] [] h = absurd (omega arith)
@@ -19,5 +19,5 @@ lines_none bytes h e = ap ended_lines (cut_none is_line_feed bytes e) ∙ ended-
 
 pub lines_some : (bytes : List ℕ) (at : ℕ) → position is_line_feed bytes ≡ Some at → lines_of bytes ≡ take at bytes ∷ lines_of (take (length bytes - (at + 1)) (drop (at + 1) bytes))
 lines_some bytes at e =
-    ap ended_lines (cut_some is_line_feed bytes at e)
+    ap ended_lines (cut_some is_line_feed bytes at 0 e)
     ∙ ended-cons (take at bytes) (slice_split is_line_feed (take (length bytes - (at + 1)) (drop (at + 1) bytes))) (omega (arith, length-slice_split is_line_feed (take (length bytes - (at + 1)) (drop (at + 1) bytes))))

@@ -6,13 +6,13 @@ use Rattle.std.specs.Str.{all_ascii_digits}
 use Rattle.std.proofs.lemmas.Bool.{eqb-true, eq-eqb, ne_eqb, leb-true, lt-ltb, and_parts, or_cases, false≢true}
 use Rattle.std.proofs.lemmas.List.{take-append-drop, drop_more, drop_all, length-append, take_at, drop_at, get_or_at}
 use Rattle.std.proofs.lemmas.List.Quantifiers.{position-Some}
+use Rattle.k_lists.proofs.Options.{bound, chosen, mapped}
 use Rattle.k_lines.specs.declared.numeral.Numeral.{Numeral}
 use Rattle.k_lines.specs.declared.line.ItemWord.{ItemWord}
 use Rattle.k_lines.specs.declared.line.ItemWord.TheVariants as item
 use Rattle.k_lines.specs.Numbers.{numeral_of, IsNumber}
 use Rattle.k_lines.specs.Lines.{Word, spelled_item, IsProperItem, is_mark, steps_at, park_at, marked_at, item_of, each_item, items_of}
 use Rattle.k_lines.proofs.Digits.{numeral-read, numeral-spelled, number_digits}
-use Rattle.k_lines.proofs.WordForms.{chosen, mapped, bound}
 
 -- a word around the place of a byte
 around : (w : Word) (at : ℕ) → at < length w → w ≡ take at w ++ get_or w at 0 ∷ drop (at + 1) w

@@ -2,6 +2,7 @@
 use Rattle.std.proofs.Common.{◌≡◌, Bool, true, cond, List, [], ◌∷◌, refl, ap, ◌∙◌, Option, Some, None, inl, inr, option_map, option_and_then, decimal}
 use Rattle.std.specs.Str.{bytes_eq}
 use Rattle.std.specs.Prelude.{codes}
+use Rattle.k_lists.proofs.Options.{bound, chosen, mapped}
 use Rattle.k_lines.specs.declared.numeral.Numeral.{Numeral}
 use Rattle.k_lines.specs.declared.line.WhoWord.{WhoWord}
 use Rattle.k_lines.specs.declared.line.ValueWord.{ValueWord}
@@ -12,7 +13,7 @@ use Rattle.k_lines.specs.declared.line.Line.TheVariants as line
 use Rattle.k_lines.specs.Numbers.{numeral_of, IsNumber}
 use Rattle.k_lines.specs.Lines.{Word, spelled_operation, spelled, IsProperOperation, IsProper, IsNamedOperation, IsNamed, name_of, who_of, value_of, timeout_of, one_numeral, one_name, show_line, aged_line, thread_line, at_line, event_line, end_line, sent, send_line, call_line, reply_line, receive_line, create_line, destroy_line, again_line, operation_line, line_of}
 use Rattle.k_lines.proofs.Digits.{numeral-read, numeral-spelled}
-use Rattle.k_lines.proofs.WordForms.{chosen, mapped, bound, word_is, name-read, who-read, value-read, timeout-read, who-spelled, value-spelled, timeout-spelled, name-spelled}
+use Rattle.k_lines.proofs.WordForms.{word_is, name-read, who-read, value-read, timeout-read, who-spelled, value-spelled, timeout-spelled, name-spelled}
 
 -- The words of an operation are its spelling, if its numerals are numbers of a script.
 ReadsOperation : List Word → OperationLine → Type 0

@@ -1,9 +1,10 @@
 -- What a word is read as is what it spells.
-use Rattle.std.proofs.Common.{◌≡◌, Bool, true, false, cond, eqb, List, [], ◌∷◌, refl, sym, ap, ◌∙◌, Option, Some, None, inl, inr, option_map, option_and_then, decimal, ◌⊎◌}
+use Rattle.std.proofs.Common.{◌≡◌, Bool, true, false, cond, eqb, List, [], ◌∷◌, refl, sym, ap, ◌∙◌, Some, None, inl, inr, option_map, decimal}
 use Rattle.std.specs.Str.{bytes_eq, all_ascii_digits}
 use Rattle.std.specs.Prelude.{codes}
 use Rattle.std.proofs.lemmas.Bool.{eqb-true, false≢true, false_from_ne_true}
 use Rattle.std.proofs.lemmas.Slice.Eq.{bytes_eq-Decides}
+use Rattle.k_lists.proofs.Options.{chosen, mapped}
 use Rattle.k_script.specs.Limits.{is_name}
 use Rattle.k_lines.specs.declared.numeral.Numeral.{Numeral}
 use Rattle.k_lines.specs.declared.line.WhoWord.{WhoWord}
@@ -13,18 +14,6 @@ use Rattle.k_lines.specs.declared.line.ValueWord.TheVariants as value
 use Rattle.k_lines.specs.Numbers.{numeral_of, IsNumber}
 use Rattle.k_lines.specs.Lines.{Word, spelled_who, spelled_value, spelled_timeout, IsProperWho, IsProperValue, name_of, hash_of, who_of, value_of, is_now, timeout_of}
 use Rattle.k_lines.proofs.Digits.{numeral-read, numeral-spelled, number_digits}
-
-pub chosen : {A : Type 0} (b : Bool) (x y z : A) → cond b x y ≡ z → ((b ≡ true) × (x ≡ z)) ⊎ ((b ≡ false) × (y ≡ z))
-chosen true x y z h = inl (refl, h)
-chosen false x y z h = inr (refl, h)
-
-pub mapped : {A B : Type 0} (f : A → B) (o : Option A) (y : B) → option_map f o ≡ Some y → (x : A) × (o ≡ Some x) × (f x ≡ y)
-mapped f None y h = absurd cc
-mapped f (Some x) y h = (x, refl, cc)
-
-pub bound : {A B : Type 0} (f : A → Option B) (o : Option A) (y : B) → option_and_then f o ≡ Some y → (x : A) × (o ≡ Some x) × (f x ≡ Some y)
-bound f None y h = absurd cc
-bound f (Some x) y h = (x, refl, h)
 
 pub word_is : (w k : Word) → bytes_eq w k ≡ true → w ≡ k
 word_is w k h = (bytes_eq-Decides w k).0 h

@@ -88,7 +88,7 @@ fn mark_at(word: &[u8]) -> Option<usize>
 }
 
 /// The item that a word of a `turns` line writes.
-#[tactic(auto, unfolding(crate::specs::Lines::item_of), using(crate::proofs::Cut::found_inside, crate::proofs::Cut::rest_at))]
+#[tactic(auto, unfolding(crate::specs::Lines::item_of), using(crate::proofs::Cut::found_inside, k_lists::proofs::Cuts::rest_at))]
 pub(crate) fn item_of(word: &[u8]) -> Option<ItemWord>
     ensures { result ≡ item_of word.now }
 {

@@ -8,6 +8,7 @@ use Rattle.std.proofs.lemmas.Bool.Decides.{eqb_tells}
 use Rattle.std.proofs.lemmas.List.{length_push, append-nil}
 use Rattle.std.proofs.lemmas.Map.Keys.{IsDistinct-head, IsDistinct-tail, IsDistinct-cons}
 use Rattle.std.proofs.lemmas.List.Quantifiers.{position-Some}
+use Rattle.k_lists.proofs.All.{all_at, all_push, all_weaker}
 use Rattle.k_ids.specs.declared.threads.ThreadId.{ThreadId}
 use Rattle.k_ids.specs.declared.threads.Message.{Message}
 use Rattle.k_ids.specs.declared.threads.Status.{Status}
@@ -27,7 +28,6 @@ use Rattle.k_model.specs.Sound.{IsQueued, IsSound}
 use Rattle.k_model.specs.History.{opened, opening_place}
 use Rattle.k_model.specs.Answered.{is_reply_to, reply_to, same_call, is_waiting, IsLastCall, IsEarlierCall, IsOfCall, IsAnswered, AddsReplies}
 use Rattle.k_model.proofs.Maps.{upd_same, upd_other, upd_cases, lowest-Some}
-use Rattle.k_model.proofs.Lists.{all_weaker, all_push, all_at}
 use Rattle.k_model.proofs.Sound.{kept, free_dead, alive_from, acts_alive, acts_free, run_from, picking_from, called-sound, with_status-sound}
 
 -- REPLIES AS A LIST

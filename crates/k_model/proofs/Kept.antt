@@ -2,6 +2,7 @@
 use Rattle.std.proofs.Common.{◌≡◌, ◌≢◌, ℕ, ◌<◌, Bool, true, false, not, [], ◌∷◌, ◌++◌, length, refl, sym, ap, ◌∙◌, remove, Option, Some, None}
 use Rattle.std.proofs.lemmas.Bool.{and_parts, false≢true, cond_both}
 use Rattle.std.proofs.lemmas.List.Quantifiers.{position-Some}
+use Rattle.k_lists.proofs.All.{all_at}
 use Rattle.k_ids.specs.declared.threads.ThreadId.{ThreadId}
 use Rattle.k_ids.specs.declared.threads.Message.{Message}
 use Rattle.k_ids.specs.declared.threads.Status.{Status}
@@ -17,7 +18,6 @@ use Rattle.k_model.specs.Step.{no_one, entry_at, called, without, sent, status_a
 use Rattle.k_model.specs.Sound.{IsSound, IsQueued}
 use Rattle.k_model.specs.Keeps.{is_settled, Keeps, is_message_phase}
 use Rattle.k_model.proofs.Maps.{upd_same, upd_other, upd_cases}
-use Rattle.k_model.proofs.Lists.{all_at}
 use Rattle.k_model.proofs.Sound.{kept, run_from, picking_from, called-sound, with_status-sound, acts_alive, acts_free}
 
 pub then_keeps : (k m n : KernelState) (t : ℕ) → Keeps k m t → Keeps m n t → Keeps k n t

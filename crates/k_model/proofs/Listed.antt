@@ -5,6 +5,7 @@ use Rattle.std.specs.List.{filter}
 use Rattle.std.proofs.lemmas.Bool.{cases_eq, and_parts, eqb-true, not-false, eq-eqb, or_cases, false≢true, cond_both}
 use Rattle.std.proofs.lemmas.List.Folds.{list_any-append}
 use Rattle.std.proofs.lemmas.List.Quantifiers.{position-Some}
+use Rattle.k_lists.proofs.All.{all_at}
 use Rattle.k_ids.specs.declared.threads.ThreadId.{ThreadId}
 use Rattle.k_ids.specs.declared.threads.Message.{Message}
 use Rattle.k_ids.specs.declared.threads.Status.{Status}
@@ -22,7 +23,6 @@ use Rattle.k_model.specs.Step.{no_one, entry_at, called, without, sent, status_a
 use Rattle.k_model.specs.Sound.{IsQueued, IsSound, IsListed, has_entry}
 use Rattle.k_model.specs.History.{opened, opening_place}
 use Rattle.k_model.proofs.Maps.{upd_same, upd_other, upd_cases}
-use Rattle.k_model.proofs.Lists.{all_at}
 use Rattle.k_model.proofs.Sound.{kept, alive_from, run_from, called-sound, with_status-sound, acts_alive, acts_free}
 
 -- ENTRIES OF A LIST

@@ -5,6 +5,7 @@ use Rattle.std.specs.List.{AllByRecursion}
 use Rattle.std.proofs.lemmas.Bool.{and_parts, not-false, false≢true, cond_both}
 use Rattle.std.proofs.lemmas.Bool.Decides.{nat_tests}
 use Rattle.std.proofs.lemmas.List.Quantifiers.{position-Some}
+use Rattle.k_lists.proofs.All.{all_at, all_push, all_weaker}
 use Rattle.k_ids.specs.declared.threads.ThreadId.{ThreadId}
 use Rattle.k_ids.specs.declared.threads.Message.{Message}
 use Rattle.k_ids.specs.declared.threads.Status.{Status}
@@ -24,7 +25,6 @@ use Rattle.k_model.specs.Sound.{IsQueued, IsSound}
 use Rattle.k_model.specs.Ranges.{IsKnown, TellsKnown, IsRanged}
 use Rattle.k_model.specs.History.{opened}
 use Rattle.k_model.proofs.Maps.{upd_same, upd_cases, lowest-Some}
-use Rattle.k_model.proofs.Lists.{all_weaker, all_push, all_at}
 use Rattle.k_model.proofs.Sound.{kept, inside_from, alive_from, called-sound, with_status-sound, acts_alive, acts_free}
 use Rattle.k_model.proofs.Listed.{acts_living, taker_lives}
 

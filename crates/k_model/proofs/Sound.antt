@@ -6,6 +6,7 @@ use Rattle.std.proofs.lemmas.Map.Steps.{length-le_from_distinct_below}
 use Rattle.std.proofs.lemmas.Map.Keys.{IsDistinct-cons}
 use Rattle.std.proofs.lemmas.List.{length-map}
 use Rattle.std.proofs.lemmas.List.Quantifiers.{position-Some}
+use Rattle.k_lists.proofs.All.{all_at, all_both, all_filter, all_filtered, all_map, all_push, all_remove, all_weaker}
 use Rattle.k_ids.specs.declared.threads.ThreadId.{ThreadId}
 use Rattle.k_ids.specs.declared.threads.Message.{Message}
 use Rattle.k_ids.specs.declared.threads.Status.{Status}
@@ -22,7 +23,7 @@ use Rattle.k_model.specs.State.{KernelState, Place, Waiting, with_place, with_st
 use Rattle.k_model.specs.Step.{no_one, entry_at, called, without, sent, status_after, queued, passed, taken, send, receive, received, is_own, match_at, is_free, renewed, created, create, left_everywhere, killed, destroy, made, acted, may_act}
 use Rattle.k_model.specs.Sound.{IsQueued, IsSound, WaitsNowhere, numbers}
 use Rattle.k_model.proofs.Maps.{upd_same, upd_other, upd_cases, lowest-Some}
-use Rattle.k_model.proofs.Lists.{all_weaker, all_both, all_push, all_at, all_remove, distinct_push, distinct_remove, lacks_removed, all_map, all_filter, all_filtered, distinct_filter}
+use Rattle.k_model.proofs.Lists.{distinct_push, distinct_remove, lacks_removed, distinct_filter}
 
 -- nobody of that number waits in a list
 abbrev pub Lacks : ℕ → List Waiting → Type 0

@@ -2,6 +2,7 @@
 use Rattle.std.proofs.Common.{◌≡◌, ℕ, suc, ◌+◌, ◌*◌, ◌<◌, ◌≤◌, Bool, true, false, not, [], ◌∷◌, ◌++◌, length, refl, sym, ap, ◌∙◌, subst, arith, remove, inl, inr, Option, Some, None}
 use Rattle.std.proofs.lemmas.Bool.{cases_lt, cases_eq, and_parts, eqb-true, false≢true, cond_both}
 use Rattle.std.proofs.lemmas.List.Quantifiers.{position-Some}
+use Rattle.k_lists.proofs.All.{all_at}
 use Rattle.k_ids.specs.declared.threads.ThreadId.{ThreadId}
 use Rattle.k_ids.specs.declared.threads.Message.{Message}
 use Rattle.k_ids.specs.declared.threads.Status.{Status}
@@ -18,7 +19,6 @@ use Rattle.k_model.specs.Step.{no_one, entry_at, called, without, sent, status_a
 use Rattle.k_model.specs.Sound.{IsSound, IsQueued}
 use Rattle.k_model.specs.Effort.{wait_of, effort_at, effort_below, effort, unlimited, waits, added_at, added_call, added}
 use Rattle.k_model.proofs.Maps.{upd_same, upd_other}
-use Rattle.k_model.proofs.Lists.{all_at}
 use Rattle.k_model.proofs.Sound.{kept, called-sound, with_status-sound, acts_alive, acts_free, inside_from, picking_from}
 
 module _ (limit : ℕ → ℕ) where

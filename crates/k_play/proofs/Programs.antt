@@ -1,5 +1,5 @@
 -- What comes next of a program: replies name threads of the table, and so do its calls.
-use Rattle.std.proofs.Common.{◌≡◌, ℕ, true, List, [], ◌∷◌, refl, subst, arith, Option, Some, None, is_some, inl, inr, ◌⊎◌}
+use Rattle.std.proofs.Common.{◌≡◌, ℕ, List, [], ◌∷◌, refl, subst, arith, Option, Some, None, inl, inr}
 use Rattle.std.specs.List.{AllByRecursion}
 use Rattle.std.proofs.lemmas.Bool.{cases_Bool}
 use Rattle.k_ids.specs.declared.threads.ThreadId.{ThreadId}
@@ -12,10 +12,8 @@ use Rattle.k_model.specs.State.{KernelState}
 use Rattle.k_model.specs.Answered.{reply_to, is_reply_to}
 use Rattle.k_model.specs.Ranges.{IsRanged, IsKnown, TellsKnown}
 use Rattle.k_machine.specs.Machine.{NamesInside}
-use Rattle.k_script.specs.declared.operation.Operation.{Operation}
-use Rattle.k_script.specs.declared.registers.Registers.{Registers}
 use Rattle.k_script.specs.Script.{Script}
-use Rattle.k_script.specs.Plays.{Position, IsInRange, TellsInRange, NamesInRange, phase_next, phase_in, moved, move_in, coming, after_work, filled, first_phase, first_move}
+use Rattle.k_script.specs.Plays.{IsInRange, TellsInRange, NamesInRange}
 
 -- THE REGISTERS name threads of the table, since the replies do.
 

@@ -1,15 +1,15 @@
 -- A script's opening state: its threads are in bounds, and all that is still to come is what the script's phases allow.
-use Rattle.std.proofs.Common.{◌≡◌, ℕ, zero, suc, ◌+◌, ◌*◌, ◌<◌, ◌≤◌, Bool, true, false, cond, not, List, [], length, get_or, take, refl, sym, ap, ◌∙◌, subst, arith, add-one, inl, inr}
+use Rattle.std.proofs.Common.{◌≡◌, ℕ, zero, suc, ◌+◌, ◌*◌, ◌<◌, ◌≤◌, Bool, true, false, cond, not, List, [], length, get_or, take, refl, sym, ap, ◌∙◌, arith, add-one, inl, inr}
 use Rattle.std.specs.Prelude.{nat_lt}
 use Rattle.std.specs.List.{sum_by}
 use Rattle.std.proofs.lemmas.Bool.{cases_lt, false≢true}
 use Rattle.std.proofs.lemmas.List.{take_all}
 use Rattle.std.proofs.lemmas.List.Sums.{sum_by_more, sum_by-take-le}
+use Rattle.k_lists.proofs.All.{all_at}
 use Rattle.k_ids.specs.declared.threads.Status.TheVariants as status
-use Rattle.k_model.specs.State.{Place, nowhere, is_dead}
+use Rattle.k_model.specs.State.{Place, nowhere}
 use Rattle.k_model.specs.History.{opening_place, new_place, dead_place}
 use Rattle.k_model.specs.Effort.{wait_of, effort_below, unlimited, waits}
-use Rattle.k_model.proofs.Lists.{all_at}
 use Rattle.k_script.specs.declared.lines.ThreadLine.{ThreadLine}
 use Rattle.k_script.specs.Script.{Script}
 use Rattle.k_script.specs.Limits.{IsScript, IsThread}

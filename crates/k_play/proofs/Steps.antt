@@ -1,5 +1,5 @@
 -- What comes next of an active thread may be made, keeps the history playing, and takes from what is still to come.
-use Rattle.std.proofs.Common.{◌≡◌, ◌≢◌, ℕ, ◌+◌, ◌<◌, ◌≤◌, Bool, true, false, ◌||◌, List, [], ◌∷◌, ◌++◌, refl, sym, ap, ◌∙◌, subst, arith, Option, Some, None, is_some, Ok, Err, inl, inr}
+use Rattle.std.proofs.Common.{◌≡◌, ◌≢◌, ℕ, ◌+◌, ◌<◌, ◌≤◌, Bool, true, false, ◌||◌, List, [], ◌∷◌, ◌++◌, refl, sym, ap, ◌∙◌, subst, arith, Some, None, is_some, Ok, Err, inl, inr}
 use Rattle.std.proofs.lemmas.Bool.{cases_eq, cases_Bool, and_parts, and_from, eq-eqb, eqb-true, false≢true}
 use Rattle.k_ids.specs.declared.threads.ThreadId.{ThreadId}
 use Rattle.k_ids.specs.declared.threads.Status.{Status}
@@ -27,7 +27,7 @@ use Rattle.k_machine.specs.Machine.{IsInTable, NamesInside}
 use Rattle.k_script.specs.Script.{Script}
 use Rattle.k_script.specs.Limits.{IsScript}
 use Rattle.k_script.specs.Weight.{phases_of_program}
-use Rattle.k_script.specs.Plays.{Position, phase_next, moved, phases_left, phases_given, NamesInRange, TellsInRange, start_of}
+use Rattle.k_script.specs.Plays.{Position, phase_next, phases_left, phases_given, NamesInRange, TellsInRange}
 use Rattle.k_script.proofs.Goes.{next_left}
 use Rattle.k_script.proofs.Within.{start_within, next_within}
 use Rattle.k_script.proofs.Shares.{start_counts}

@@ -1,9 +1,8 @@
 -- A history goes on with an entry whose event may be made, has the outcome that comes of it, and, if it is a call, is the next
 -- one of its thread's program.
-use Rattle.std.proofs.Common.{◌≡◌, ◌≢◌, ◌⊎◌, ℕ, ◌+◌, true, false, List, [], ◌∷◌, ◌++◌, refl, sym, ap, ◌∙◌, subst, arith, Option, Some, None, Ok, inl, inr}
+use Rattle.std.proofs.Common.{◌≡◌, ◌≢◌, ◌⊎◌, ℕ, ◌+◌, true, false, List, [], ◌∷◌, ◌++◌, refl, sym, ap, ◌∙◌, subst, arith, Some, None, Ok, inl, inr}
 use Rattle.std.proofs.lemmas.Bool.{cases_eq, cases_Bool}
 use Rattle.k_ids.specs.declared.threads.ThreadId.{ThreadId}
-use Rattle.k_ids.specs.declared.calls.Phase.{Phase}
 use Rattle.k_ids.specs.declared.calls.Phase.TheVariants as phase
 use Rattle.k_ids.specs.declared.calls.Act.{Act}
 use Rattle.k_ids.specs.declared.calls.Act.TheVariants as act
@@ -11,16 +10,16 @@ use Rattle.k_ids.specs.declared.calls.Outcome.{Outcome}
 use Rattle.k_ids.specs.declared.calls.Outcome.TheVariants as outcome
 use Rattle.k_ids.specs.declared.histories.Entry.{Entry}
 use Rattle.k_model.specs.State.{KernelState, id_of, same_id}
-use Rattle.k_model.specs.Step.{step, acted, called}
-use Rattle.k_model.specs.Keeps.{IsRenewed, Leaves, renewed_call}
+use Rattle.k_model.specs.Step.{step, acted}
+use Rattle.k_model.specs.Keeps.{IsRenewed, Leaves}
 use Rattle.k_model.specs.History.{calls_of}
 use Rattle.k_model.proofs.Left.{acted_leaves, acted_renews, create_tells, renewed_other}
 use Rattle.k_script.specs.Script.{Script}
-use Rattle.k_script.specs.Plays.{Position, phase_next, start_of, program_of, makes}
-use Rattle.k_positions.specs.Positions.{IsNextAct, reply_to_last, positions_after}
+use Rattle.k_script.specs.Plays.{Position, start_of, program_of, makes}
+use Rattle.k_positions.specs.Positions.{IsNextAct, positions_after}
 use Rattle.k_positions.proofs.Playing.{IsAt, IsPlaying}
 use Rattle.k_positions.proofs.Histories.{step_gives, same_is, same_self, apart_from, calls_apart, program_stays, program_given, none_made, other_made, this_made}
-use Rattle.k_positions.proofs.Moves.{entry_for, there, Happens, OfOthers, OfCalls, OfCreates, moves_by}
+use Rattle.k_positions.proofs.Moves.{entry_for, OfOthers, OfCalls, OfCreates, moves_by}
 use Rattle.k_positions.proofs.Plays.{keeps_playing, keeps_others, mine_stays, mine_moves, at_other}
 
 module _ (script : Script) (es : List Entry) (k n : KernelState) (at to : ℕ → Position) (who : ThreadId) (serial : ℕ) (o : Outcome) (p : IsPlaying script es k at) where

@@ -1,10 +1,10 @@
 -- At first no call was made, and each thread of the script stands at the start of its program.
-use Rattle.std.proofs.Common.{◌≡◌, ◌⊎◌, ℕ, ◌+◌, ◌<◌, ◌≤◌, Bool, true, false, not, cond, List, [], length, get_or, refl, sym, ap, ◌∙◌, subst, arith, Option, Some, None, inl, inr}
+use Rattle.std.proofs.Common.{◌≡◌, ℕ, ◌+◌, ◌<◌, ◌≤◌, Bool, true, false, not, cond, List, [], length, get_or, refl, sym, ap, ◌∙◌, subst, arith, Some, None, inl, inr}
 use Rattle.std.specs.Prelude.{nat_lt}
 use Rattle.std.proofs.lemmas.Bool.{cases_Bool, cases_lt, and_parts, eqb-true, false≢true}
 use Rattle.std.proofs.lemmas.Bool.Decides.{nat_tests}
 use Rattle.k_ids.specs.declared.threads.ThreadId.{ThreadId}
-use Rattle.k_model.specs.State.{KernelState, Place, nowhere, id_of, is_dead}
+use Rattle.k_model.specs.State.{Place, nowhere, id_of, is_dead}
 use Rattle.k_model.specs.History.{opening_place, new_place, dead_place}
 use Rattle.k_model.proofs.Opening.{opened-sound}
 use Rattle.k_model.proofs.Answered.{opened-answered}

@@ -1,5 +1,5 @@
 -- An event that comes next keeps the history playing.
-use Rattle.std.proofs.Common.{◌≡◌, ◌≢◌, ◌⊎◌, ℕ, ◌+◌, ◌-◌, ◌<◌, ◌≤◌, Bool, true, false, List, [], ◌∷◌, ◌++◌, length, refl, sym, ap, ◌∙◌, subst, arith, Option, Some, None, is_some, Ok, inl, inr}
+use Rattle.std.proofs.Common.{◌≡◌, ◌≢◌, ◌⊎◌, ℕ, ◌+◌, ◌-◌, ◌<◌, ◌≤◌, true, false, List, [], ◌∷◌, ◌++◌, refl, sym, ap, ◌∙◌, subst, arith, Option, Some, None, is_some, Ok, inl, inr}
 use Rattle.std.proofs.lemmas.Bool.{cases_eq, cases_Bool, and_parts, eqb-true, eq-eqb, false≢true}
 use Rattle.k_ids.specs.declared.threads.ThreadId.{ThreadId}
 use Rattle.k_ids.specs.declared.threads.Status.TheVariants as status
@@ -9,7 +9,6 @@ use Rattle.k_ids.specs.declared.calls.Reply.{Reply}
 use Rattle.k_ids.specs.declared.calls.Act.{Act}
 use Rattle.k_ids.specs.declared.calls.Act.TheVariants as act
 use Rattle.k_ids.specs.declared.calls.Outcome.{Outcome}
-use Rattle.k_ids.specs.declared.histories.Event.{Event}
 use Rattle.k_ids.specs.declared.histories.Entry.{Entry}
 use Rattle.k_model.specs.State.{KernelState, id_of, is_dead, same_id}
 use Rattle.k_model.specs.Step.{step, may_act, acted, called}
@@ -26,11 +25,11 @@ use Rattle.k_model.proofs.Replays.{replay_push}
 use Rattle.k_model.proofs.Kept.{end_settles, gone_keeps, pick_keeps}
 use Rattle.k_model.proofs.Left.{acted_leaves, acted_renews, call_caller}
 use Rattle.k_script.specs.Script.{Script}
-use Rattle.k_script.specs.Plays.{Position, Runs, phase_next, moved, start_of, program_of, program_made, reply_before, opened_for}
+use Rattle.k_script.specs.Plays.{Position, Runs, phase_next, moved, start_of, program_of, reply_before, opened_for}
 use Rattle.k_script.proofs.Goes.{runs_push, runs_later}
 use Rattle.k_positions.specs.Positions.{reply_to_last}
-use Rattle.k_positions.proofs.Playing.{IsAt, HasPlayed, PlayedIn, IsPlaying}
-use Rattle.k_positions.proofs.Histories.{same_is, apart_from, calls_apart, calls_mine, calls_same, program_stays, program_kept}
+use Rattle.k_positions.proofs.Playing.{IsAt, PlayedIn, IsPlaying}
+use Rattle.k_positions.proofs.Histories.{same_is, apart_from, calls_apart, calls_mine, calls_same, program_kept}
 use Rattle.k_positions.proofs.Ends.{ends_next}
 
 -- WHAT AN EVENT CHANGES at a number: it is the caller's, it is left as it was, or it has a new thread.

@@ -5,6 +5,7 @@ use Rattle.std.specs.List.{list_all, flat_map, AllByRecursion, sum_by}
 use Rattle.std.specs.Str.{bytes_eq}
 use Rattle.std.proofs.lemmas.Bool.{and_parts, cases_Bool}
 use Rattle.std.proofs.lemmas.List.{length-append, get_or-take, get_or-replicate, get_or_at}
+use Rattle.k_lists.proofs.All.{all_append, all_parts}
 use Rattle.k_script.specs.declared.lines.ThreadLine.{ThreadLine}
 use Rattle.k_script.specs.declared.lines.AtWhat.{AtWhat}
 use Rattle.k_script.specs.declared.lines.AtWhat.TheVariants as what
@@ -32,7 +33,7 @@ use Rattle.k_reader.proofs.Aging.{zeros_zero}
 use Rattle.k_reader.proofs.Openings.{no-words, some-words, first-spelled}
 use Rattle.k_reader.proofs.Meaning.{spelled_items, aged_take, zeros_take}
 use Rattle.k_reader.proofs.Taken.{taken, taken-both, taken-one, draft, accept-table, accept-carriers, accept-show, taken-aged, taken-programs}
-use Rattle.k_reader.proofs.Scheduled.{taken-threads, taken-events, taken_turns, taken-turns, all_parts}
+use Rattle.k_reader.proofs.Scheduled.{taken-threads, taken-events, taken_turns, taken-turns}
 
 -- WORDS, taken in line by line
 
@@ -107,10 +108,6 @@ turns-taken carriers d e (is ∷ splits) small some h t =
     go (Ok f) a b c more = ap (λ (x : Result Draft Why). on_ok x (λ f. taken_words f (map turns_line splits))) (c ∙ a) ∙ more f b
 
 -- THE LINES OF A SCRIPT ARE GOOD
-
-all_append : {X : Type 0} (P : X → Type 0) (xs ys : List X) → AllByRecursion P xs → AllByRecursion P ys → AllByRecursion P (xs ++ ys)
-all_append P [] ys h i = i
-all_append P (x ∷ xs) ys h i = (h.0, all_append P xs ys h.1 i)
 
 ages-good : (table : ℕ) (ages : List Age) → table ≤ 64 → AllByRecursion (IsAge table) ages → AllByRecursion IsGood (map aged_line ages)
 ages-good table [] small h = tt

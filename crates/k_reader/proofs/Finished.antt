@@ -1,11 +1,12 @@
 -- A draft to which nothing is missing is a script within the limits.
 use Rattle.std.proofs.Common.{◌≡◌, ℕ, zero, suc, ◌+◌, ◌<◌, ◌≤◌, Bool, false, eqb, ◌||◌, List, [], ◌∷◌, length, take, refl, sym, ap, ◌∙◌, subst, arith, Option, Some, None, Ok, unwrap_or, is_some, is_none}
 use Rattle.std.specs.Prelude.{◌==◌}
-use Rattle.std.specs.List.{AllByRecursion, IsDistinct}
+use Rattle.std.specs.List.{IsDistinct}
 use Rattle.std.specs.Option.{IfSome}
 use Rattle.std.specs.Str.{bytes_eq}
 use Rattle.std.proofs.lemmas.Bool.{or_parts, false≢true}
 use Rattle.std.proofs.lemmas.List.{append-nil, length-take-le, get_or-take}
+use Rattle.k_lists.proofs.All.{all_take}
 use Rattle.k_script.specs.Script.{Program, Script, program_in}
 use Rattle.k_script.specs.Limits.{IsProgram, IsScript}
 use Rattle.k_reader.specs.declared.fault.Why.TheVariants as why
@@ -28,11 +29,6 @@ program_at_place : (table before : ℕ) (ps : List Program) (k : ℕ) → AllPro
 program_at_place table before [] k h l = absurd (omega (arith, l))
 program_at_place table before (p ∷ ps) zero h l = let e : before ≡ before + 0 = omega arith in subst (λ (b : ℕ). IsProgram table b p) e h.0
 program_at_place table before (p ∷ ps) (suc k) h l = let e : before + 1 + k ≡ before + suc k = omega arith in subst (λ (b : ℕ). IsProgram table b (program_in ps k)) e (program_at_place table (before + 1) ps k h.1 (omega (arith, l)))
-
-all_take : {X : Type 0} (P : X → Type 0) (n : ℕ) (xs : List X) → AllByRecursion P xs → AllByRecursion P (take n xs)
-all_take P zero xs h = tt
-all_take P (suc n) [] h = tt
-all_take P (suc n) (x ∷ xs) h = (h.0, all_take P n xs h.1)
 
 some_lines : {X : Type 0} (xs : List X) → is_nil xs ≡ false → 1 ≤ length xs
 some_lines [] h = absurd (false≢true (sym h))

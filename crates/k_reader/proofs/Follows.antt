@@ -5,7 +5,8 @@ use Rattle.std.specs.List.{flat_map, AllByRecursion, IsDistinct, list_all}
 use Rattle.std.specs.Option.{IfSome}
 use Rattle.std.proofs.lemmas.Bool.{lt-ltb, not-true, eqb-true, false≢true}
 use Rattle.std.proofs.lemmas.List.{map_push, length-replicate}
-use Rattle.k_model.proofs.Lists.{all_push}
+use Rattle.k_lists.proofs.Distinct.{distinct_push}
+use Rattle.k_lists.proofs.All.{all_push}
 use Rattle.k_script.specs.declared.lines.AtWhat.{AtWhat}
 use Rattle.k_script.specs.declared.lines.AtWhat.TheVariants as what
 use Rattle.k_script.specs.declared.lines.Item.{Item}
@@ -19,7 +20,6 @@ use Rattle.k_lines.specs.Lines.{Word, IsProper, IsProperOperation}
 use Rattle.k_reader.specs.Draft.{Draft, table_of, carriers_of, is_zero, is_aged}
 use Rattle.k_reader.specs.Reading.{accept, accept_table, accept_carriers, accept_show, accept_aged, accept_program, accept_end, accept_thread, accept_start, accept_slice, accept_operation, with_event}
 use Rattle.k_reader.specs.Grammar.{Age, IsAge, aged_by, numbers_of, event_line}
-use Rattle.k_reader.proofs.Lists.{distinct_push}
 use Rattle.k_reader.proofs.Resolved.{resolved, thread_named}
 use Rattle.k_reader.proofs.Proper.{proper_by, operation-proper}
 use Rattle.k_reader.proofs.Aging.{aged-push, unaged, no_ages}

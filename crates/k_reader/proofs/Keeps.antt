@@ -6,6 +6,7 @@ use Rattle.std.specs.Option.{IfSome}
 use Rattle.std.proofs.lemmas.Bool.{or_parts, ltb-false, leb-false, eqb-true, not-false, false≢true, ne_eqb, eq-eqb}
 use Rattle.std.proofs.lemmas.List.{append-nil, length_push}
 use Rattle.std.proofs.lemmas.List.Sums.{sum_by-append}
+use Rattle.k_lists.proofs.Distinct.{distinct_push}
 use Rattle.k_script.specs.declared.lines.ThreadLine.{ThreadLine}
 use Rattle.k_script.specs.declared.lines.AtWhat.{AtWhat}
 use Rattle.k_script.specs.declared.lines.AtWhat.TheVariants as what
@@ -23,7 +24,6 @@ use Rattle.k_lines.specs.Numbers.{in_range, exactly}
 use Rattle.k_lines.specs.Lines.{Word, IsNamed}
 use Rattle.k_reader.specs.Draft.{Draft, table_of, carriers_of, is_nil, is_number, falls_behind}
 use Rattle.k_reader.specs.Reading.{misnests, operation_in, accept_operation, accept_table, accept_carriers, accept_show, accept_aged, accept_program, accept_end, accept_thread, with_event, accept_start, accept_slice, accept, accept_turns}
-use Rattle.k_reader.proofs.Lists.{distinct_push}
 use Rattle.k_reader.proofs.Nesting.{pushed, nests}
 use Rattle.k_reader.proofs.Resolved.{resolved, thread_named, items-resolved}
 use Rattle.k_reader.proofs.Within.{Programs, IsWithin, programs_empty, threads_empty, schedule_empty, ages_set_first, ages_more, program_begun, program_more, program_closed, threads_more, event_more, turns_more}

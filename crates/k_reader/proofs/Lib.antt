@@ -1,7 +1,7 @@
 mod Found
 mod Chains
 mod Nesting
-mod Lists
+mod Named
 mod Resolved
 mod Within
 mod Kept

@@ -1,8 +1,9 @@
 -- The first line with words.
-use Rattle.std.proofs.Common.{◌≡◌, ℕ, ◌+◌, ◌≤◌, true, false, not, leb, List, [], ◌∷◌, length, refl, sym, ap, ◌∙◌, arith, Option, Some, None, inl, inr, option_and_then}
+use Rattle.std.proofs.Common.{◌≡◌, ℕ, ◌+◌, ◌≤◌, true, false, not, leb, List, [], ◌∷◌, length, refl, sym, ap, ◌∙◌, arith, Some, None, inl, inr, option_and_then}
 use Rattle.std.specs.List.{list_all, list_any, slice_split, filter, onto_first, count_by}
 use Rattle.std.proofs.lemmas.Bool.{cases_Bool, and_parts, or_parts, or_cases, leb-true, ne_eqb, false≢true}
 use Rattle.std.proofs.lemmas.List.Splits.{slice_split-cons_yes, slice_split-cons_no, length-slice_split}
+use Rattle.k_lists.proofs.Options.{bound}
 use Rattle.k_lines.specs.declared.numeral.Numeral.{Numeral}
 use Rattle.k_lines.specs.declared.line.Line.{Line}
 use Rattle.k_lines.specs.declared.line.Line.TheVariants as line
@@ -66,10 +67,6 @@ pub some-words : (text : List ℕ) → has_words text ≡ true → 1 ≤ length 
 some-words text h = parted-some (uncommented text) h
 
 -- THE VERSION
-
-bound : {A B : Type 0} (f : A → Option B) (o : Option A) (y : B) → option_and_then f o ≡ Some y → (x : A) × (o ≡ Some x) × (f x ≡ Some y)
-bound f None y h = absurd cc
-bound f (Some x) y h = (x, refl, h)
 
 kernel_only : (w : Word) (ws : List Word) (l : Line) (v : ℕ) → line_of w ws ≡ Some l → version_in l ≡ Some v → (w ∷ ws ≡ spelled (line.Kernel (exactly v))) × (1 ≤ v) × (v ≤ 2)
 kernel_only w ws (line.Kernel n) v a h =

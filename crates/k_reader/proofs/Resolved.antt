@@ -5,6 +5,7 @@ use Rattle.std.specs.Str.{bytes_eq}
 use Rattle.std.proofs.lemmas.Bool.{cases_Bool, and_parts, ltb-true, not-true}
 use Rattle.std.proofs.lemmas.List.Quantifiers.{position-Some}
 use Rattle.std.proofs.lemmas.Slice.Eq.{bytes_eq-Decides}
+use Rattle.std.proofs.lemmas.Option.{same_Some}
 use Rattle.k_script.specs.declared.operation.Who.{Who}
 use Rattle.k_script.specs.declared.operation.Who.TheVariants as who
 use Rattle.k_script.specs.declared.operation.Value.{Value}
@@ -37,9 +38,6 @@ use Rattle.k_reader.proofs.Chains.{ok_bad_if, ok_given, ok_on_ok}
 pub ok_same : {A : Type 0} (x y : A) → ◌≡◌ {A = Result A Why} (Ok x) (Ok y) → x ≡ y
 ok_same x y h = cc
 
-pub some_same : {A : Type 0} (x y : A) → Some x ≡ Some y → x ≡ y
-some_same x y h = cc
-
 -- A numeral without a leading zero is that of its value.
 pub exact_of : (n : Numeral) (v : ℕ) → n.led ≡ false → n.value ≡ v → n ≡ exactly v
 exact_of n v a b = ap (λ (l : Bool). let m : Numeral = record { led = l; value = n.value } in m) a ∙ ap exactly b
@@ -54,7 +52,7 @@ lower size n v plain h = elim (cases_Bool (ltb n.value size)) [
   | inr f ↦ let no : None ≡ Some v = sym (rw f refl) ∙ h in absurd cc
   | inl t ↦
       let got : Some n.value ≡ Some v = sym (rw t refl) ∙ h in
-      let same = some_same n.value v got in
+      let same = same_Some n.value v got in
       let less = ltb-true n.value size t in
       (exact_of n v plain same, omega (arith, less, same))
 ]

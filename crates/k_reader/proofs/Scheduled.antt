@@ -8,6 +8,8 @@ use Rattle.std.proofs.lemmas.Bool.{lt-ltb, le-ltb, lt-leb, eqb-false, ne_eqb, or
 use Rattle.std.proofs.lemmas.List.{append-nil, length-append}
 use Rattle.std.proofs.lemmas.List.Sums.{sum_by-append}
 use Rattle.std.proofs.lemmas.Grind.{flat_map-append}
+use Rattle.k_lists.proofs.Distinct.{distinct_before, distinct_left}
+use Rattle.k_lists.proofs.All.{all_parts}
 use Rattle.k_script.specs.declared.lines.ThreadLine.{ThreadLine}
 use Rattle.k_script.specs.declared.lines.AtWhat.{AtWhat}
 use Rattle.k_script.specs.declared.lines.AtWhat.TheVariants as what
@@ -21,7 +23,7 @@ use Rattle.k_reader.specs.declared.fault.Why.{Why}
 use Rattle.k_reader.specs.Draft.{Draft, carriers_of, is_nil, is_number, falls, falls_behind}
 use Rattle.k_reader.specs.Reading.{on_ok, accept, accept_thread, accept_start, accept_slice, accept_turns, are_many, has_numbers, items_in}
 use Rattle.k_reader.specs.Grammar.{thread_line, event_line, at_line, item_line}
-use Rattle.k_reader.proofs.Lists.{distinct_before, distinct_front, named_at}
+use Rattle.k_reader.proofs.Named.{named_at}
 use Rattle.k_reader.proofs.Unresolved.{items-given, items-numbers}
 use Rattle.k_reader.proofs.Taken.{taken, taken-one, draft}
 
@@ -72,7 +74,7 @@ comes : (xs : List AtLine) (a : AtLine) (ys : List AtLine) → IsDistinct (λ a 
 unfolding Comes
 comes xs a ys h =
     let split : started (xs ++ a ∷ ys) ≡ started xs ++ (started_by a.what ++ started ys) = flat_map-append (λ a. started_by a.what) xs (a ∷ ys) in
-    distinct_front (λ a b. eqb a b) (started xs ++ started_by a.what) (started ys) (subst (IsDistinct (λ a b. eqb a b)) (split ∙ sym (append_assoc (started xs) (started_by a.what) (started ys))) h)
+    distinct_left (λ a b. eqb a b) (started xs ++ started_by a.what) (started ys) (subst (IsDistinct (λ a b. eqb a b)) (split ∙ sym (append_assoc (started xs) (started_by a.what) (started ys))) h)
 
 accept-event : (v t : ℕ) (c : Option ℕ) (s : Bool) (aged : List ℕ) (ps : List Program) (ts : List ThreadLine) (xs : List AtLine) (k : ℕ) (w : AtWhat) (d : Draft) → d ≡ draft v t c s aged ps None ts xs [] → is_nil ts ≡ false → falls xs (exactly k) ≡ false → k ≤ 4294967295 → length xs < 10000 → IsEvent (carriers_of d) (length ts) w → Comes xs (record { step = k; what = w }) → accept d (event_line k w) ≡ Ok (draft v t c s aged ps None ts (xs ++ record { step = k; what = w } ∷ []) [])
 unfolding accept accept_start accept_slice Comes
@@ -91,10 +93,6 @@ taken-events v t c s aged ps ts n done (a ∷ rest) some carriers few rising onc
     taken-one (draft v t c s aged ps None ts done []) (draft v t c s aged ps None ts (done ++ a ∷ []) []) (draft v t c s aged ps None ts (done ++ a ∷ rest) []) (at_line a) (map at_line rest)
     (accept-event v t c s aged ps ts done a.step a.what (draft v t c s aged ps None ts done []) refl some (rises done a rest rising h.0.step) h.0.step (omega (arith, few, long)) (subst (λ (k : ℕ). IsEvent k (length ts) a.what) (sym carriers) h.0.event) (comes done a rest once))
     (more ∙ ap (λ (xs : List AtLine). Ok (draft v t c s aged ps None ts xs [])) same)
-
-pub all_parts : {X : Type 0} (P : X → Type 0) (xs ys : List X) → AllByRecursion P (xs ++ ys) → AllByRecursion P xs × AllByRecursion P ys
-all_parts P [] ys h = (tt, h)
-all_parts P (x ∷ xs) ys h = let r = all_parts P xs ys h.1 in ((h.0, r.0), r.1)
 
 -- THE TURNS, line by line
 

@@ -6,6 +6,9 @@ use Rattle.std.specs.Str.{bytes_eq}
 use Rattle.std.proofs.lemmas.Bool.{lt-ltb, lt-leb, eqb-false}
 use Rattle.std.proofs.lemmas.List.{append-nil, length-append, map-append, get_or-set_other, get_or_at}
 use Rattle.std.proofs.lemmas.Map.Keys.{IsDistinct-head, IsDistinct-tail}
+use Rattle.k_lists.proofs.Positions.{absent_found}
+use Rattle.k_lists.proofs.Distinct.{distinct_before, distinct_left}
+use Rattle.k_lists.proofs.All.{all_of_map}
 use Rattle.k_script.specs.declared.lines.ThreadLine.{ThreadLine}
 use Rattle.k_script.specs.declared.lines.AtLine.{AtLine}
 use Rattle.k_script.specs.declared.lines.Item.{Item}
@@ -20,8 +23,6 @@ use Rattle.k_reader.specs.declared.fault.Why.{Why}
 use Rattle.k_reader.specs.Draft.{Draft, opened, is_zero, program_at}
 use Rattle.k_reader.specs.Reading.{on_ok, accept_operation, accept_table, accept_carriers, accept_show, accept_aged, accept_program, accept_end, accept}
 use Rattle.k_reader.specs.Grammar.{Age, IsAge, aged_by, numbers_of, aged_line, operation_line, operation_lines, program_lines}
-use Rattle.k_reader.proofs.Lists.{distinct_before, distinct_front, absent_found}
-use Rattle.k_model.proofs.Lists.{all_of_map}
 use Rattle.k_reader.proofs.Nesting.{pushed}
 use Rattle.k_reader.proofs.Unresolved.{operation-given, nests-well}
 
@@ -140,7 +141,7 @@ taken-programs v t c s aged done (p ∷ rest) few names h =
     let free = absent_found (λ q. bytes_eq q.name p.name) done (all_of_map (λ n. bytes_eq n p.name ≡ false) (λ q. q.name) done (distinct_before bytes_eq (map (λ q. q.name) done) p.name (map (λ q. q.name) rest) split)) in
     let here : program_in (done ++ p ∷ rest) (length done) ≡ p = get_or_at done p rest nothing (length done) refl in
     let fits = subst (IsProgram t (length done)) here (h (length done) (omega (arith, long))) in
-    let before = distinct_front bytes_eq (map (λ p. p.name) done) (p.name ∷ map (λ p. p.name) rest) split in
+    let before = distinct_left bytes_eq (map (λ p. p.name) done) (p.name ∷ map (λ p. p.name) rest) split in
     let more = taken-programs v t c s aged (done ++ p ∷ []) rest (subst (λ (ps : List Program). length ps ≤ 255) (sym same) few) (subst (λ (ps : List Program). IsDistinct bytes_eq (map (λ p. p.name) ps)) (sym same) names) (subst (λ (ps : List Program). (k : ℕ) → k < length ps → IsProgram t k (program_in ps k)) (sym same) h) in
     taken-both (draft v t c s aged done None [] [] []) (draft v t c s aged (done ++ p ∷ []) None [] [] []) (draft v t c s aged (done ++ p ∷ rest) None [] [] []) (program_lines (done ++ p ∷ rest) p) (flat_map (program_lines (done ++ p ∷ rest)) rest)
     (taken-program v t c s aged done (p ∷ rest) p before (omega (arith, few, long)) free fits)

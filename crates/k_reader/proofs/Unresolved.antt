@@ -19,7 +19,7 @@ use Rattle.k_reader.specs.declared.fault.Why.{Why}
 use Rattle.k_reader.specs.Draft.{program_at}
 use Rattle.k_reader.specs.Reading.{on_ok, is_led, who_in, value_in, thread_in, message_in, operation_in, misnests, has_numbers, item_in, items_in}
 use Rattle.k_reader.specs.Grammar.{who_line, value_line, operation_line, item_line}
-use Rattle.k_reader.proofs.Lists.{named_at}
+use Rattle.k_reader.proofs.Named.{named_at}
 
 who-unled : (t : Who) → is_led (who_line t) ≡ false
 who-unled (who.Number n) = refl

@@ -7,7 +7,9 @@ use Rattle.std.specs.Str.{bytes_eq}
 use Rattle.std.proofs.lemmas.Bool.{cases_lt, false≢true}
 use Rattle.std.proofs.lemmas.List.{append-nil, map_push, length_push, length-append, length-set, length-replicate}
 use Rattle.std.proofs.lemmas.Grind.{flat_map-append}
-use Rattle.k_model.proofs.Lists.{all_push, all_map}
+use Rattle.k_lists.proofs.Positions.{absent_passes}
+use Rattle.k_lists.proofs.Distinct.{distinct_push}
+use Rattle.k_lists.proofs.All.{all_append, all_set, all_map, all_push}
 use Rattle.k_script.specs.declared.lines.ThreadLine.{ThreadLine}
 use Rattle.k_script.specs.declared.lines.AtLine.{AtLine}
 use Rattle.k_script.specs.declared.lines.Item.{Item}
@@ -15,7 +17,6 @@ use Rattle.k_script.specs.declared.operation.Operation.{Operation}
 use Rattle.k_script.specs.Script.{Program}
 use Rattle.k_script.specs.Limits.{is_name, depth_behind, IsOperation, IsProgram, IsThread, IsAtLine, IsRising, started, started_by, IsAtLines, IsItem, steps_of, IsTurns}
 use Rattle.k_reader.specs.Draft.{Draft, opened, table_of, carriers_of, program_at}
-use Rattle.k_reader.proofs.Lists.{distinct_push, absent_passes}
 
 abbrev pub names_of : List Program → List (List ℕ)
 names_of ps = map (λ p. p.name) ps
@@ -120,11 +121,6 @@ within_opened version low high = record {
 
 -- ONE MORE OF EACH
 
-pub all_set : {X : Type 0} (P : X → Type 0) (xs : List X) (i : ℕ) (a : X) → AllByRecursion P xs → P a → AllByRecursion P (slice_set xs i a)
-all_set P [] i a h p = tt
-all_set P (x ∷ xs) zero a h p = (p, h.1)
-all_set P (x ∷ xs) (suc i) a h p = (h.0, all_set P xs i a h.1 p)
-
 pub ages_set : (aged : List ℕ) (number version : ℕ) → Ages aged 0 → version ≤ 1048575 → Ages (slice_set aged number version) 0
 ages_set aged number version a h = record {
   numbered = length-set aged number version ∙ a.numbered;
@@ -211,16 +207,12 @@ event_more carriers threads ls turns a h room fits late once = record {
   turns = h.turns;
 }
 
-all_both_lists : {X : Type 0} (P : X → Type 0) (xs ys : List X) → AllByRecursion P xs → AllByRecursion P ys → AllByRecursion P (xs ++ ys)
-all_both_lists P [] ys h i = i
-all_both_lists P (x ∷ xs) ys h i = (h.0, all_both_lists P xs ys h.1 i)
-
 pub turns_more : (carriers threads : ℕ) (ls : List AtLine) (turns more : List Item) → Schedule carriers threads ls turns → AllByRecursion (IsItem carriers) more → length turns + length more ≤ 10000 → sum_by steps_of (turns ++ more) ≤ 1000000 → 2 ≤ carriers → Schedule carriers threads ls (turns ++ more)
 turns_more carriers threads ls turns more h all few bounded several = record {
   at_lines = h.at_lines;
   turns = record {
     few = omega (arith, few, length-append turns more);
-    items = all_both_lists (IsItem carriers) turns more h.turns.items all;
+    items = all_append (IsItem carriers) turns more h.turns.items all;
     bounded = bounded;
     several = λ _. several;
   };

@@ -3,6 +3,7 @@ use Rattle.std.proofs.Common.{◌≡◌, ℕ, suc, ◌+◌, ◌*◌, ◌-◌, �
 use Rattle.std.proofs.lemmas.Bool.{cases_lt}
 use Rattle.std.proofs.lemmas.List.{get_or_past, get_or_append_left, take_more}
 use Rattle.std.proofs.Math.Seq.{get_or-append_seam, drop-cons}
+use Rattle.std.proofs.lemmas.Option.{same_Some}
 use Rattle.k_script.specs.declared.operation.Operation.{Operation}
 use Rattle.k_script.specs.declared.operation.Operation.TheVariants as operation
 use Rattle.k_script.specs.declared.scale.Scale.{Scale}
@@ -102,22 +103,19 @@ length_multiplied turn count [] h = absurd (omega arith)
 length_multiplied turn count (t ∷ []) h = absurd (omega arith)
 length_multiplied turn count (t ∷ u ∷ ts) h = omega arith
 
-same_depth : (a b : ℕ) → Some a ≡ Some b → a ≡ b
-same_depth a b h = cc
-
 length_totals_before : (s : Scale) (exact : List ℕ) (op : Operation) (depth d : ℕ) (ts : List ℕ) → depth_after depth op ≡ Some d → length ts ≡ d + 1 → length (totals_before s exact op ts) ≡ depth + 1
 length_totals_before s exact (operation.Repeat count) depth d ts h e = let o = open_repeat depth d count h in omega (arith, o.0, o.1, length_multiplied s.turn count ts (omega (arith, o.1, e)))
 length_totals_before s exact operation.Again depth d ts h e = let o = open_again depth d h in omega (arith, o.0, o.1)
-length_totals_before s exact (operation.Send to low high zero) depth d ts h e = omega (arith, same_depth depth d h, length_added (cost s exact (operation.Send to low high zero)) ts)
-length_totals_before s exact (operation.Receive from zero) depth d ts h e = omega (arith, same_depth depth d h, length_added (cost s exact (operation.Receive from zero)) ts)
-length_totals_before s exact (operation.Call to low high zero) depth d ts h e = omega (arith, same_depth depth d h, length_added (cost s exact (operation.Call to low high zero)) ts)
-length_totals_before s exact (operation.Reply low high zero) depth d ts h e = omega (arith, same_depth depth d h, length_added (cost s exact (operation.Reply low high zero)) ts)
-length_totals_before s exact (operation.Create program priority) depth d ts h e = omega (arith, same_depth depth d h, length_added (cost s exact (operation.Create program priority)) ts)
-length_totals_before s exact (operation.Destroy victim) depth d ts h e = omega (arith, same_depth depth d h, length_added (cost s exact (operation.Destroy victim)) ts)
-length_totals_before s exact (operation.Work count) depth d ts h e = omega (arith, same_depth depth d h, length_added (cost s exact (operation.Work count)) ts)
+length_totals_before s exact (operation.Send to low high zero) depth d ts h e = omega (arith, same_Some depth d h, length_added (cost s exact (operation.Send to low high zero)) ts)
+length_totals_before s exact (operation.Receive from zero) depth d ts h e = omega (arith, same_Some depth d h, length_added (cost s exact (operation.Receive from zero)) ts)
+length_totals_before s exact (operation.Call to low high zero) depth d ts h e = omega (arith, same_Some depth d h, length_added (cost s exact (operation.Call to low high zero)) ts)
+length_totals_before s exact (operation.Reply low high zero) depth d ts h e = omega (arith, same_Some depth d h, length_added (cost s exact (operation.Reply low high zero)) ts)
+length_totals_before s exact (operation.Create program priority) depth d ts h e = omega (arith, same_Some depth d h, length_added (cost s exact (operation.Create program priority)) ts)
+length_totals_before s exact (operation.Destroy victim) depth d ts h e = omega (arith, same_Some depth d h, length_added (cost s exact (operation.Destroy victim)) ts)
+length_totals_before s exact (operation.Work count) depth d ts h e = omega (arith, same_Some depth d h, length_added (cost s exact (operation.Work count)) ts)
 
 pub length_totals : (s : Scale) (exact : List ℕ) (depth : ℕ) (ops : List Operation) → depth_behind depth ops ≡ Some 0 → length (totals s exact ops) ≡ depth + 1
-length_totals s exact depth [] h = let e : depth ≡ 0 = same_depth depth 0 h in omega arith
+length_totals s exact depth [] h = let e : depth ≡ 0 = same_Some depth 0 h in omega arith
 length_totals s exact depth (op ∷ ops) h =
     let o = open_behind depth op ops h in
     length_totals_before s exact op depth o.0 (totals s exact ops) o.1 (length_totals s exact o.0 ops o.2)

@@ -3,6 +3,7 @@ use Rattle.std.proofs.Common.{◌≡◌, ℕ, zero, suc, ◌+◌, ◌*◌, ◌<�
 use Rattle.std.specs.List.{range_with_len, AllByRecursion, IsDistinct, list_all}
 use Rattle.std.specs.Str.{bytes_eq}
 use Rattle.std.proofs.lemmas.List.FromFn.{length-map-range_with_len, get_or-map-range_with_len}
+use Rattle.k_lists.proofs.All.{all_append}
 use Rattle.k_script.specs.declared.lines.ThreadLine.{ThreadLine}
 use Rattle.k_script.specs.declared.lines.AtLine.{AtLine}
 use Rattle.k_script.specs.declared.lines.Item.{Item}
@@ -124,15 +125,11 @@ no_turns turns e = subst (IsTurns 1) (sym e) (record { few = omega arith; items 
 
 -- THREADS
 
-all_both_of : {X : Type 0} (P : X → Type 0) (xs ys : List X) → AllByRecursion P xs → AllByRecursion P ys → AllByRecursion P (xs ++ ys)
-all_both_of P [] ys h g = g
-all_both_of P (x ∷ xs) ys h g = (h.0, all_both_of P xs ys h.1 g)
-
 abbrev threads_of : ℕ → List ThreadLine
 threads_of number = map (client_thread number) (range_with_len 0 8) ++ map server_thread (range_with_len 0 4)
 
 threads_are : (number : ℕ) → AllByRecursion (IsThread 9) (threads_of number)
-threads_are number = all_both_of (IsThread 9) (map (client_thread number) (range_with_len 0 8)) (map server_thread (range_with_len 0 4))
+threads_are number = all_append (IsThread 9) (map (client_thread number) (range_with_len 0 8)) (map server_thread (range_with_len 0 4))
     (all_range (IsThread 9) (client_thread number) 0 8 (λ i l m. record { priority = omega arith; program = omega arith }))
     (all_range (IsThread 9) server_thread 0 4 (λ i l m. record { priority = omega arith; program = omega arith }))
 

@@ -2,7 +2,7 @@
 use Rattle.std.proofs.Common.{◌≡◌, ℕ, suc, ◌+◌, ◌-◌, ◌<◌, ◌≤◌, nat_lt, List, [], ◌∷◌, length, drop, refl, sym, ap, ◌∙◌, arith, Option, Some, None, slice_get, inl, inr, add-one, option_and_then}
 use Rattle.std.proofs.lemmas.Bool.{cases_Bool}
 use borrow.Author.Tests.{ltb-true}
-use Rattle.std.proofs.lemmas.Option.{slice_get_cases}
+use Rattle.std.proofs.lemmas.Option.{slice_get_cases, same_Some}
 use Rattle.std.proofs.lemmas.List.{drop_all}
 use Rattle.std.proofs.Math.Seq.{drop-cons}
 use Rattle.k_script.specs.declared.operation.Operation.{Operation}
@@ -63,22 +63,19 @@ open_again depth d h = elim (cases_Bool (nat_lt 0 depth)) [
   | inr f ↦ let no : None ≡ Some d = sym (rw f refl) ∙ h in absurd cc
 ]
 
-some_is : (a b : ℕ) → Some a ≡ Some b → a ≡ b
-some_is a b h = cc
-
 length_before : (op : Operation) (depth d : ℕ) (ls : List (List Operation)) → depth_after depth op ≡ Some d → length ls ≡ d + 1 → length (levels_before op ls) ≡ depth + 1
 length_before (operation.Repeat count) depth d ls h e = let o = open_repeat depth d count h in omega (arith, o.0, o.1, length_repeated count ls (omega (arith, o.1, e)))
 length_before operation.Again depth d ls h e = let o = open_again depth d h in omega (arith, o.0, o.1)
-length_before (operation.Send to low high zero) depth d ls h e = omega (arith, some_is depth d h, length_in_front (operation.Send to low high zero) ls)
-length_before (operation.Receive from zero) depth d ls h e = omega (arith, some_is depth d h, length_in_front (operation.Receive from zero) ls)
-length_before (operation.Call to low high zero) depth d ls h e = omega (arith, some_is depth d h, length_in_front (operation.Call to low high zero) ls)
-length_before (operation.Reply low high zero) depth d ls h e = omega (arith, some_is depth d h, length_in_front (operation.Reply low high zero) ls)
-length_before (operation.Create program priority) depth d ls h e = omega (arith, some_is depth d h, length_in_front (operation.Create program priority) ls)
-length_before (operation.Destroy victim) depth d ls h e = omega (arith, some_is depth d h, length_in_front (operation.Destroy victim) ls)
-length_before (operation.Work count) depth d ls h e = omega (arith, some_is depth d h, length_in_front (operation.Work count) ls)
+length_before (operation.Send to low high zero) depth d ls h e = omega (arith, same_Some depth d h, length_in_front (operation.Send to low high zero) ls)
+length_before (operation.Receive from zero) depth d ls h e = omega (arith, same_Some depth d h, length_in_front (operation.Receive from zero) ls)
+length_before (operation.Call to low high zero) depth d ls h e = omega (arith, same_Some depth d h, length_in_front (operation.Call to low high zero) ls)
+length_before (operation.Reply low high zero) depth d ls h e = omega (arith, same_Some depth d h, length_in_front (operation.Reply low high zero) ls)
+length_before (operation.Create program priority) depth d ls h e = omega (arith, same_Some depth d h, length_in_front (operation.Create program priority) ls)
+length_before (operation.Destroy victim) depth d ls h e = omega (arith, same_Some depth d h, length_in_front (operation.Destroy victim) ls)
+length_before (operation.Work count) depth d ls h e = omega (arith, same_Some depth d h, length_in_front (operation.Work count) ls)
 
 pub length_levels : (depth : ℕ) (ops : List Operation) → depth_behind depth ops ≡ Some 0 → length (levels ops) ≡ depth + 1
-length_levels depth [] h = let e : depth ≡ 0 = some_is depth 0 h in omega arith
+length_levels depth [] h = let e : depth ≡ 0 = same_Some depth 0 h in omega arith
 length_levels depth (op ∷ ops) h =
     let o = open_behind depth op ops h in
     length_before op depth o.0 (levels ops) o.1 (length_levels o.0 ops o.2)
@@ -86,13 +83,13 @@ length_levels depth (op ∷ ops) h =
 pub depth_few : (op : Operation) (depth d : ℕ) → depth ≤ 4 → depth_after depth op ≡ Some d → d ≤ 4
 depth_few (operation.Repeat count) depth d few h = let o = open_repeat depth d count h in omega (arith, o.0, o.1)
 depth_few operation.Again depth d few h = let o = open_again depth d h in omega (arith, o.0, o.1)
-depth_few (operation.Send to low high zero) depth d few h = omega (arith, some_is depth d h)
-depth_few (operation.Receive from zero) depth d few h = omega (arith, some_is depth d h)
-depth_few (operation.Call to low high zero) depth d few h = omega (arith, some_is depth d h)
-depth_few (operation.Reply low high zero) depth d few h = omega (arith, some_is depth d h)
-depth_few (operation.Create program priority) depth d few h = omega (arith, some_is depth d h)
-depth_few (operation.Destroy victim) depth d few h = omega (arith, some_is depth d h)
-depth_few (operation.Work count) depth d few h = omega (arith, some_is depth d h)
+depth_few (operation.Send to low high zero) depth d few h = omega (arith, same_Some depth d h)
+depth_few (operation.Receive from zero) depth d few h = omega (arith, same_Some depth d h)
+depth_few (operation.Call to low high zero) depth d few h = omega (arith, same_Some depth d h)
+depth_few (operation.Reply low high zero) depth d few h = omega (arith, same_Some depth d h)
+depth_few (operation.Create program priority) depth d few h = omega (arith, same_Some depth d h)
+depth_few (operation.Destroy victim) depth d few h = omega (arith, same_Some depth d h)
+depth_few (operation.Work count) depth d few h = omega (arith, same_Some depth d h)
 
 -- So it is behind each operation of a program.
 pub nested_behind : (depth : ℕ) (ops : List Operation) (k : ℕ) → depth ≤ 4 → depth_behind depth ops ≡ Some 0 → (d : ℕ) × (d ≤ 4) × (depth_behind d (drop k ops) ≡ Some 0)

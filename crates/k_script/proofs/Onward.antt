@@ -1,7 +1,7 @@
 -- What comes next of a program: the place that is kept gives the operations that are left.
 use Rattle.std.proofs.Common.{◌≡◌, ℕ, suc, ◌<◌, ◌≤◌, Bool, true, false, ◌&&◌, List, [], ◌∷◌, length, get_or, refl, sym, ◌∙◌, subst, arith, Option, Some, None, inl, inr}
 use Rattle.std.proofs.lemmas.Bool.{cases_lt}
-use Rattle.k_model.proofs.Lists.{all_weaker}
+use Rattle.k_lists.proofs.All.{all_weaker}
 use Rattle.k_ids.specs.declared.calls.Phase.{Phase}
 use Rattle.k_ids.specs.declared.calls.Phase.TheVariants as phase
 use Rattle.k_ids.specs.declared.calls.Reply.{Reply}

@@ -3,7 +3,7 @@ use Rattle.std.proofs.Common.{◌≡◌, ℕ, suc, ◌+◌, ◌-◌, ◌*◌, �
 use Rattle.std.specs.List.{repeat, AllByRecursion}
 use Rattle.std.proofs.lemmas.Bool.{cases_Bool}
 use Rattle.std.proofs.lemmas.Option.{slice_get_cases}
-use Rattle.k_model.proofs.Lists.{all_at}
+use Rattle.k_lists.proofs.All.{all_at}
 use Rattle.k_script.specs.declared.operation.Operation.{Operation}
 use Rattle.k_script.specs.declared.operation.Operation.TheVariants as operation
 use Rattle.k_script.specs.declared.cursor.Turn.{Turn}

@@ -1,13 +1,14 @@
 -- What a program written out is: operation by operation, and repeat by repeat.
 use Rattle.std.proofs.Common.{◌≡◌, ℕ, ◌+◌, ◌≤◌, false, List, [], ◌∷◌, ◌++◌, length, refl, sym, ap, ◌∙◌, arith, Some, append_assoc, append-nil}
 use Rattle.std.specs.List.{repeat, AllByRecursion}
+use Rattle.k_lists.proofs.All.{all_append}
 use Rattle.k_script.specs.declared.operation.Operation.{Operation}
 use Rattle.k_script.specs.declared.operation.Operation.TheVariants as operation
 use Rattle.k_script.specs.Limits.{depth_after, depth_behind}
 use Rattle.k_script.specs.Flat.{levels, levels_before, in_front, repeated, flat, first_level, is_marker}
 use Rattle.k_script.proofs.Levels.{open_behind, open_repeat, length_levels, length_in_front}
 use Rattle.k_script.proofs.Turns.{plain_front}
-use Rattle.k_script.proofs.Within.{all_append, all_repeat}
+use Rattle.k_script.proofs.Within.{all_repeat}
 
 -- THERE IS a level at least.
 

@@ -1,10 +1,10 @@
 use Rattle.std.proofs.Common.{sym}
+use Rattle.k_lists.proofs.Cuts.{cut_none, cut_some}
 use Rattle.k_lines.specs.Words.{is_blank}
-use Rattle.k_lines.proofs.Cut.{cut_none, cut_some}
 use Rattle.k_lines.proofs.words.first_part.Goals as goal
 
 pub returns-in-None-clause-split : goal.returns-in-None-clause-split
 returns-in-None-clause-split c = cut_none is_blank c.args.text.now (sym c.in-None.ensures)
 
 pub returns-in-Some-clause-split : goal.returns-in-Some-clause-split
-returns-in-Some-clause-split c = cut_some is_blank c.args.text.now c.in-Some.at (sym c.in-Some.ensures)
+returns-in-Some-clause-split c = cut_some is_blank c.args.text.now c.in-Some.at 0 (sym c.in-Some.ensures)

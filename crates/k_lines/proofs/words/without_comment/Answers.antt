@@ -1,6 +1,6 @@
 use Rattle.std.proofs.Common.{sym}
+use Rattle.k_lists.proofs.Cuts.{before_none, before_some}
 use Rattle.k_lines.specs.Words.{begins_comment}
-use Rattle.k_lines.proofs.Cut.{before_none, before_some}
 use Rattle.k_lines.proofs.words.without_comment.Goals as goal
 
 pub returns-in-None : goal.returns-in-None

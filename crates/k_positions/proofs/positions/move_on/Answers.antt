@@ -1,4 +1,4 @@
-use Rattle.std.proofs.Common.{◌<◌, length, arith, refl, sym, ◌∙◌}
+use Rattle.std.proofs.Common.{◌<◌, length, arith}
 use Rattle.k_positions.proofs.Places.{call_moves, create_moves, made_number, no_create, none_begins, places_set}
 use Rattle.k_positions.proofs.positions.move_on.Goals as goal
 

@@ -1,7 +1,7 @@
-use Rattle.std.proofs.Common.{◌≡◌, ◌+◌, ◌++◌, [], ◌∷◌, List, length, get_or, subst, sym, arith, length-append}
-use Rattle.k_script.specs.Place.{Place, IsPlace, position_in, no_place}
+use Rattle.std.proofs.Common.{◌≡◌, ◌++◌, [], ◌∷◌, arith, length-append}
+use Rattle.k_script.specs.Place.{IsPlace, position_in}
 use Rattle.k_script.specs.Plays.{start_of, first_id}
-use Rattle.k_positions.specs.Positions.{positions_in, program_at}
+use Rattle.k_positions.specs.Positions.{program_at}
 use Rattle.k_positions.proofs.Places.{places_push}
 use Rattle.k_positions.proofs.positions.starts.Goals as goal
 

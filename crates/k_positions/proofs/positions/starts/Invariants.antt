@@ -1,4 +1,4 @@
-use Rattle.std.proofs.Common.{◌≡◌, ◌<◌, ◌≤◌, ℕ, length, get_or}
+use Rattle.std.proofs.Common.{◌≡◌, ◌<◌, ℕ, length, get_or}
 use Rattle.k_script.specs.Place.{IsPlace, no_place}
 use Rattle.k_script.specs.Plays.{start_of, first_id}
 use Rattle.k_positions.specs.Positions.{positions_in, program_at}

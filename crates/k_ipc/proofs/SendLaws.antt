@@ -8,7 +8,7 @@ use Rattle.k_ids.specs.declared.state_word.StateWord.{StateWord}
 use Rattle.k_ids.specs.StateWords.{state_word_of}
 use Rattle.k_locks.specs.declared.steps.Answer.{Answer}
 use Rattle.k_locks.specs.Asks as asks
-use Rattle.k_locks.specs.Asks.{Response, hand_asked, Got, Released, Won, Word, loaded}
+use Rattle.k_locks.specs.Asks.{Response, hand_asked, Got, Released, Word, loaded}
 use Rattle.k_locks.specs.declared.steps.Went.{Went}
 use Rattle.k_locks.specs.declared.steps.Went.TheVariants as went
 use Rattle.k_locks.specs.Hands.{Hand, hand_with, trimmed}

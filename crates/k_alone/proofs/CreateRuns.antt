@@ -10,10 +10,10 @@ use Rattle.k_ids.specs.declared.context_word.ContextWord.TheVariants.{Clean, Emp
 use Rattle.k_ids.specs.declared.state_word.State.{State}
 use Rattle.k_ids.specs.declared.state_word.State.TheVariants as state
 use Rattle.k_ids.specs.declared.state_word.StateWord.{StateWord}
-use Rattle.k_ids.specs.StateWords.{IsStateSpelling, IsStateWord, Agrees, state_bits, state_word_of}
+use Rattle.k_ids.specs.StateWords.{IsStateWord, Agrees, state_bits, state_word_of}
 use Rattle.k_ids.specs.ContextWords.{IsVersion}
 use Rattle.k_ids.specs.LockWords.{lock_bits}
-use Rattle.k_ids.proofs.StateSpelled.{state-read, state-whole}
+use Rattle.k_ids.proofs.StateSpelled.{state-read}
 use Rattle.k_ready.specs.Lists.{IsInNone}
 use Rattle.k_locks.specs.Numbers.{ThreadNumbers}
 use Rattle.k_locks.specs.declared.steps.Answer.TheVariants as answer

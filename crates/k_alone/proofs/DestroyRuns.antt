@@ -13,8 +13,7 @@ use Rattle.k_ids.specs.declared.context_word.ContextWord.TheVariants.{Empty, Cle
 use Rattle.k_ids.specs.declared.state_word.StateWord.{StateWord}
 use Rattle.k_ids.specs.ContextWords.{context_bits}
 use Rattle.k_ids.specs.LockWords.{lock_bits}
-use Rattle.k_ids.specs.StateWords.{IsStateSpelling, IsStateWord, state_bits}
-use Rattle.k_ids.proofs.StateSpelled.{state-whole}
+use Rattle.k_ids.specs.StateWords.{IsStateWord, state_bits}
 use Rattle.k_senders.specs.declared.entries.SenderEntry.{SenderEntry}
 use Rattle.k_senders.specs.Entries.{number_of}
 use Rattle.k_senders.specs.Queue.{Queue, IsOnceEach}

@@ -15,7 +15,7 @@ use Rattle.k_ids.specs.declared.state_word.State.{State}
 use Rattle.k_ids.specs.declared.state_word.State.TheVariants as state
 use Rattle.k_ids.specs.declared.state_word.StateWord.{StateWord}
 use Rattle.k_ids.specs.LockWords.{lock_bits}
-use Rattle.k_ids.specs.StateWords.{IsStateSpelling, IsStateWord, IsPartner, state_bits, state_word_of, partner_of, is_live}
+use Rattle.k_ids.specs.StateWords.{IsStateWord, IsPartner, state_bits, state_word_of, partner_of, is_live}
 use Rattle.k_ids.proofs.StateSpelled.{state-read, state-whole}
 use Rattle.k_senders.specs.declared.entries.SenderEntry.{SenderEntry}
 use Rattle.k_senders.specs.Entries.{number_of}

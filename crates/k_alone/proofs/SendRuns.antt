@@ -14,8 +14,8 @@ use Rattle.k_ids.specs.declared.state_word.State.TheVariants as state
 use Rattle.k_ids.specs.declared.state_word.StateWord.{StateWord}
 use Rattle.k_ids.specs.LockWords.{lock_bits}
 use Rattle.k_ids.specs.Messages.{message_bits}
-use Rattle.k_ids.specs.StateWords.{IsStateSpelling, IsStateWord, IsPartner, state_bits, state_word_of, partner_of, is_live}
-use Rattle.k_ids.proofs.StateSpelled.{state-read, state-whole}
+use Rattle.k_ids.specs.StateWords.{IsStateWord, IsPartner, state_bits, state_word_of, partner_of, is_live}
+use Rattle.k_ids.proofs.StateSpelled.{state-read}
 use Rattle.k_senders.specs.Queue.{Queue}
 use Rattle.k_locks.specs.declared.goods.Goods.TheVariants as goods
 use Rattle.k_locks.specs.declared.locks.Lock.TheVariants as lock

@@ -1,28 +1,11 @@
 -- The words of a line, one after the other, and the place of the first element that passes.
-use Rattle.std.proofs.Common.{◌≡◌, ℕ, suc, get_or, add-one, drop-cons, ◌+◌, ◌-◌, ◌<◌, ◌≤◌, Bool, true, not, List, [], ◌∷◌, ◌++◌, length, take, drop, map, refl, sym, ap, ◌∙◌, arith, Option, Some, None, MatchOption, option_map, position, set, append_assoc, length-append, inl, inr}
+use Rattle.std.proofs.Common.{◌≡◌, ℕ, suc, get_or, add-one, drop-cons, ◌+◌, ◌<◌, ◌≤◌, Bool, true, not, List, [], ◌∷◌, ◌++◌, length, take, drop, map, refl, sym, ap, ◌∙◌, arith, Option, Some, None, MatchOption, option_map, position, set, append_assoc, length-append, inl, inr}
 use Rattle.std.specs.List.{position_or_len, list_all}
-use Rattle.std.proofs.lemmas.Bool.{and_parts, cases_Bool, cases_lt, lt-ltb, le-ltb}
-use Rattle.std.proofs.lemmas.List.{take-append-drop, length-drop, take_all, length-map, length-take, map-append, take_more_set}
+use Rattle.std.proofs.lemmas.Bool.{and_parts, cases_Bool, le-ltb}
+use Rattle.std.proofs.lemmas.List.{take-append-drop, length-map, length-take, map-append, take_more_set}
 use Rattle.std.proofs.lemmas.List.Splits.{length-slice_split}
+use Rattle.k_lists.proofs.Positions.{position_at}
 use Rattle.k_history.specs.Reading.{is_space, parts_of}
-
-pub position_at : {X : Type 0} (p : X → Bool) (xs : List X) (at : ℕ) → position p xs ≡ Some at → (position_or_len p xs ≡ at) × (position_or_len p xs < length xs)
-position_at p xs at e = elim (cases_lt (position_or_len p xs) (length xs)) [
-  | inl l ↦ let both : Some (position_or_len p xs) ≡ Some at = sym (rw (lt-ltb _ _ l) refl) ∙ e in (cc, l)
-  | inr g ↦ let no : None ≡ Some at = sym (rw (le-ltb _ _ g) refl) ∙ e in absurd cc
-]
-
--- What a slice's range gives behind the place.
-pub rest_at : {X : Type 0} (xs : List X) (i : ℕ) → take (length xs - i) (drop i xs) ≡ drop i xs
-rest_at xs i = take_all (length xs - i) (drop i xs) (omega (arith, length-drop i xs))
-
--- The place doesn't depend on a map before the test.
-position_or_len_map : {X Y : Type 0} (f : X → Y) (p : Y → Bool) (xs : List X) → position_or_len p (map f xs) ≡ position_or_len (λ x. p (f x)) xs
-position_or_len_map f p [] = refl
-position_or_len_map f p (x ∷ xs) = rw (position_or_len_map f p xs) refl
-
-pub position_map : {X Y : Type 0} (f : X → Y) (p : Y → Bool) (xs : List X) → position p (map f xs) ≡ position (λ x. p (f x)) xs
-position_map f p xs = rw (position_or_len_map f p xs) (rw (length-map xs f) refl)
 
 -- the words in what is left of a line, if anything is
 abbrev pub parts_left : Option (List ℕ) → List (List ℕ)

@@ -8,7 +8,8 @@ use Rattle.std.proofs.lemmas.List.Splits.{slice_split_first, slice_split-cons_no
 use Rattle.k_text.specs.Texts.{Word, joined, spaced}
 use Rattle.k_text.proofs.Digits.{decimal-digits}
 use Rattle.k_history.specs.Reading.{parts_of}
-use Rattle.k_history.proofs.Cut.{position_at, some_part}
+use Rattle.k_lists.proofs.Positions.{position_at}
+use Rattle.k_history.proofs.Cut.{some_part}
 
 -- whether this byte stands nowhere in a word
 abbrev pub lacks : ℕ → Word → Bool

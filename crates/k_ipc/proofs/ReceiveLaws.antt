@@ -8,7 +8,7 @@ use Rattle.k_ids.specs.declared.state_word.StateWord.{StateWord}
 use Rattle.k_ids.specs.StateWords.{state_word_of}
 use Rattle.k_locks.specs.declared.steps.Answer.{Answer}
 use Rattle.k_locks.specs.Asks as asks
-use Rattle.k_locks.specs.Asks.{Response, Got, Released, Won, Word, loaded}
+use Rattle.k_locks.specs.Asks.{Response, hand_asked, Got, Released, Won, Word, loaded}
 use Rattle.k_locks.specs.declared.steps.Went.{Went}
 use Rattle.k_locks.specs.declared.steps.Went.TheVariants as went
 use Rattle.k_locks.specs.Hands.{Hand, hand_with, trimmed}
@@ -95,6 +95,29 @@ asked_at (location.Pushing (LoadFreed d) q r) = refl
 asked_at (location.Pushing (PushFreed d w) q r) = refl
 asked_at (location.ListsReturned d w q) = refl
 asked_at (location.QueueReturned r) = refl
+
+-- and has in hand what doesn't go with its release
+pub asked_hand : (c : ReceiveCall) (own : StateWord) (l : ReceiveLocation) → can_ask l ≡ true → hand_of (asked_location l) ≡ hand_asked (ask_of c own (at_of l)) (hand_of l)
+asked_hand c own (location.Outside LoadCaller) e = refl
+asked_hand c own (location.Outside AcquireOwn) e = refl
+asked_hand c own (location.Outside (Ended w)) e = refl
+asked_hand c own (location.Locked LoadOwn q) e = refl
+asked_hand c own (location.Locked (LoadSender d) q) e = refl
+asked_hand c own (location.Locked (FreeSender d w) q) e = refl
+asked_hand c own (location.Locked (AcquireReady d) q) e = refl
+asked_hand c own (location.Locked CommitWait q) e = refl
+asked_hand c own (location.Locked (LoadPartner from) q) e = refl
+asked_hand c own (location.Locked (CommitGone from) q) e = refl
+asked_hand c own (location.Locked LoadPicking q) e = refl
+asked_hand c own (location.Locked (LoadNext d) q) e = refl
+asked_hand c own (location.Locked (FreeNext d w) q) e = refl
+asked_hand c own (location.Locked (EndPick d w) q) e = refl
+asked_hand c own (location.Locked SettlePick q) e = refl
+asked_hand c own (location.Locked (Release r) q) e = refl
+asked_hand c own (location.Pushing (LoadFreed d) q i) e = refl
+asked_hand c own (location.Pushing (PushFreed d w) q i) e = refl
+asked_hand c own (location.ListsReturned d w q) e = absurd (false≢true e)
+asked_hand c own (location.QueueReturned r) e = absurd (false≢true e)
 
 located : (c : ReceiveCall) (l : ReceiveLocation) → IsSoundLocation c l → IsSoundLocation c (asked_location l)
 located c (location.Outside p) h = h
@@ -183,26 +206,6 @@ won_keeps c h (Release release.Delivered) = refl
 won_keeps c h (Release release.Gone) = refl
 won_keeps c h (Release release.Nobody) = refl
 won_keeps c h (Release release.Dead) = refl
-
-pub loaded_keeps : (c : ReceiveCall) (h : Hand) (p : ReceiveLocked) (w : StateWord) → hand_after c h (Locked p) (Word w) ≡ h
-loaded_keeps c h LoadOwn v = refl
-loaded_keeps c h (LoadSender d) v = refl
-loaded_keeps c h (FreeSender d w) v = refl
-loaded_keeps c h (AcquireReady d) v = refl
-loaded_keeps c h CommitWait v = refl
-loaded_keeps c h (LoadPartner from) v = refl
-loaded_keeps c h (CommitGone from) v = refl
-loaded_keeps c h LoadPicking v = refl
-loaded_keeps c h (LoadNext d) v = refl
-loaded_keeps c h (FreeNext d w) v = refl
-loaded_keeps c h (EndPick d w) v = refl
-loaded_keeps c h SettlePick v = refl
-loaded_keeps c h (Release (release.Taken d)) v = refl
-loaded_keeps c h (Release release.Waits) v = refl
-loaded_keeps c h (Release release.Delivered) v = refl
-loaded_keeps c h (Release release.Gone) v = refl
-loaded_keeps c h (Release release.Nobody) v = refl
-loaded_keeps c h (Release release.Dead) v = refl
 
 -- HOW A SECTION GOES ON
 

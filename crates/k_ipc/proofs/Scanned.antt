@@ -1,5 +1,5 @@
 -- A scan of a queue along its links.
-use Rattle.std.proofs.Common.{◌≡◌, ℕ, ◌+◌, ◌<◌, ◌≤◌, Bool, true, false, Option, Some, None, List, [], ◌∷◌, length, refl, ◌∙◌, subst, arith}
+use Rattle.std.proofs.Common.{◌≡◌, ℕ, ◌+◌, ◌<◌, ◌≤◌, Bool, true, false, Option, Some, None, List, [], ◌∷◌, length, refl, ◌∙◌, arith}
 use Rattle.std.specs.Prelude.{◌==◌, if◌then◌else◌}
 use Rattle.std.proofs.lemmas.Bool.{cond_both}
 use Rattle.std.proofs.lemmas.Grind.{common_steps}
@@ -89,7 +89,3 @@ count_steps from o n es e u at h = rw (at, onward_is n es e h, linked_after n es
 
 pub scan_shortens : (o : Option ℕ) (n : ℕ) (es : List SenderEntry) (e : SenderEntry) → IsOnceEach es → o ≡ Some n → entry_of n es ≡ Some e → length (linked (number_after n es) es) < length (linked o es)
 scan_shortens o n es e u at h = rw (at, onward_is n es e h, linked_after n es u) (omega arith)
-
-pub link_stands : (o : Option ℕ) (n : ℕ) (es : List SenderEntry) → IsLink o es → o ≡ Some n → stands n es ≡ true
-link_stands None n es l e = absurd cc
-link_stands (Some m) n es l e = let same : m ≡ n = cc in subst (λ (k : ℕ). stands k es ≡ true) same l

@@ -1,15 +1,14 @@
 -- The table of a send: what holds of each location.
-use Rattle.std.proofs.Common.{◌≡◌, ℕ, Bool, true, false, Option, Some, None, refl, sym, ◌∙◌}
+use Rattle.std.proofs.Common.{◌≡◌, ℕ, Bool, true, false, Option, None, refl, sym, ◌∙◌}
 use Rattle.std.proofs.lemmas.Bool.{cond_both, false≢true}
 use Rattle.std.specs.Prelude.{if◌then◌else◌}
 use Rattle.k_ids.specs.declared.calls.Reply.{Reply}
 use Rattle.k_ids.specs.declared.calls.Reply.TheVariants as reply
 use Rattle.k_ids.specs.declared.state_word.StateWord.{StateWord}
 use Rattle.k_ids.specs.StateWords.{state_word_of}
-use Rattle.k_locks.specs.declared.points.Point.{Point}
 use Rattle.k_locks.specs.declared.steps.Answer.{Answer}
 use Rattle.k_locks.specs.Asks as asks
-use Rattle.k_locks.specs.Asks.{Response, Got, Released, Won, Word, loaded}
+use Rattle.k_locks.specs.Asks.{Response, hand_asked, Got, Released, Word, loaded}
 use Rattle.k_locks.specs.declared.steps.Went.{Went}
 use Rattle.k_locks.specs.declared.steps.Went.TheVariants as went
 use Rattle.k_locks.specs.Hands.{Hand, hand_with, trimmed}
@@ -86,6 +85,24 @@ asked_at (location.Locked (Release r) q) = refl
 asked_at (location.Pushing p q r) = refl
 asked_at (location.ListsReturned p q) = refl
 asked_at (location.QueueReturned r) = refl
+
+-- and has in hand what doesn't go with its release
+pub asked_hand : (c : SendCall) (own : StateWord) (l : SendLocation) → can_ask l ≡ true → hand_of (asked_location l) ≡ hand_asked (ask_of c own (at_of l)) (hand_of l)
+asked_hand c own (location.Outside LoadCaller) e = refl
+asked_hand c own (location.Outside AcquireReceiver) e = refl
+asked_hand c own (location.Outside (CheckCaller r)) e = refl
+asked_hand c own (location.Outside (Ended w)) e = refl
+asked_hand c own (location.Locked LoadReceiver q) e = refl
+asked_hand c own (location.Locked (StoreMail w) q) e = refl
+asked_hand c own (location.Locked (CommitPass w) q) e = refl
+asked_hand c own (location.Locked (WakeReceiver w) q) e = refl
+asked_hand c own (location.Locked ReloadReceiver q) e = refl
+asked_hand c own (location.Locked (AcquireReady priority) q) e = refl
+asked_hand c own (location.Locked CommitWait q) e = refl
+asked_hand c own (location.Locked (Release r) q) e = refl
+asked_hand c own (location.Pushing (PushReceiver priority) q i) e = refl
+asked_hand c own (location.ListsReturned (PushReceiver priority) q) e = absurd (false≢true e)
+asked_hand c own (location.QueueReturned r) e = absurd (false≢true e)
 
 pub asked_sound : (s : SendSection) → IsSound s → IsSound (asked s)
 asked_sound s h = record { caller = h.caller; to = h.to; own = h.own; located = rw (asked_at s.location) h.located }

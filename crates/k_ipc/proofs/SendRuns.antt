@@ -1,5 +1,5 @@
 -- The table of a send: its locks, and how many steps are left.
-use Rattle.std.proofs.Common.{◌≡◌, ◌≢◌, ℕ, ◌+◌, ◌*◌, ◌≤◌, Bool, true, false, not, Option, Some, None, List, [], ◌∷◌, refl, sym, ap, arith}
+use Rattle.std.proofs.Common.{◌≡◌, ◌≢◌, ℕ, ◌+◌, ◌*◌, ◌≤◌, Bool, true, false, not, Some, None, refl, sym, ap, arith}
 use Rattle.std.proofs.lemmas.Bool.{false≢true, cond_both, eq-eqb, eqb-true}
 use Rattle.std.proofs.lemmas.Grind.{common_steps}
 use Rattle.std.specs.Prelude.{◌==◌, slice_get, if◌then◌else◌}
@@ -10,18 +10,16 @@ use Rattle.k_locks.specs.declared.locks.Lock.{Lock}
 use Rattle.k_locks.specs.declared.locks.Lock.TheVariants as lock
 use Rattle.k_locks.specs.Asks.{Response, is_lost}
 use Rattle.k_locks.specs.Hands.{Hand}
-use Rattle.k_locks.specs.Locks.{Holds, IsByRank, rank_of}
+use Rattle.k_locks.specs.Locks.{Holds, IsByRank}
 use Rattle.k_locks.specs.Shown.{is_present_in, shows}
 use Rattle.k_locks.specs.Tables.{IsAbove, IsHeld, IsMade, IsReleasedInTime, IsRising, hand_came, locks_after, misses, there_after}
 use Rattle.k_locks.proofs.Responses.{Each, Again, made_by, told_by}
 use Rattle.k_locks.proofs.Tables.{IsFalling, is_exchange, released_in_time}
 use Rattle.k_ipc.specs.declared.send.SendCall.{SendCall}
-use Rattle.k_ipc.specs.declared.send.SendOutside.{SendOutside}
 use Rattle.k_ipc.specs.declared.send.SendOutside.TheVariants.{LoadCaller, AcquireReceiver, CheckCaller, Ended}
 use Rattle.k_ipc.specs.declared.send.SendLocked.{SendLocked}
 use Rattle.k_ipc.specs.declared.send.SendLocked.TheVariants.{LoadReceiver, StoreMail, CommitPass, WakeReceiver, ReloadReceiver, AcquireReady, CommitWait, Release}
 use Rattle.k_ipc.specs.declared.send.SendRelease.TheVariants as release
-use Rattle.k_ipc.specs.declared.send.SendPushing.{SendPushing}
 use Rattle.k_ipc.specs.declared.send.SendPushing.TheVariants.{PushReceiver}
 use Rattle.k_ipc.specs.SendTable.{SendAt, Outside, Locked, Pushing, after_receiver, ask_of, counted, hand_after, leads, left_of, left_ready, left_thread, locks_of, rest_of, rest_thread, seen_of, send_table, stays}
 use Rattle.k_ipc.proofs.Held.{by_thread, none_held, own_number}

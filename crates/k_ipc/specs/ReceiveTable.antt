@@ -274,6 +274,22 @@ left_thread c h (Locked SettlePick) = 2
 left_thread c h (Locked (Release r)) = 1
 left_thread c h (Outside p) = 0
 
+-- no candidate is tried any more
+abbrev pub is_settled : ReceiveLocked → Bool
+is_settled LoadOwn = false
+is_settled (LoadSender e) = false
+is_settled (FreeSender e w) = false
+is_settled (AcquireReady e) = true
+is_settled CommitWait = true
+is_settled (LoadPartner from) = true
+is_settled (CommitGone from) = true
+is_settled LoadPicking = false
+is_settled (LoadNext e) = false
+is_settled (FreeNext e w) = false
+is_settled (EndPick e w) = true
+is_settled SettlePick = true
+is_settled (Release r) = true
+
 -- the same for the ready lock
 abbrev pub left_ready : ReceiveAt → ℕ
 left_ready (Pushing (LoadFreed e)) = 2

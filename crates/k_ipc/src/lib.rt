@@ -5,9 +5,11 @@
 //! Between the two anything may happen, and any context may make the step (Hohmuth and Härtig, *Pragmatic Nonblocking
 //! Synchronization for Real-Time Systems*). The locations of a section, their order and their number are this project's own.
 //!
-//! `specs/SendTable` and `specs/ReceiveTable` have one line for each location: its step, where each answer leads, which event it
-//! appends to the history, which locks it holds, and how many steps are left until each lock is released. `docs/SECTIONS.md`
-//! has the same tables in words. The contracts say that the code is these tables.
+//! `specs/SendTable` and `specs/ReceiveTable` have one line for each location: what it asks for, where each response leads, what
+//! becomes of what is in hand, which event it appends to the history, which locks it holds, and how many steps are left until
+//! each lock is released. They speak of decoded words; the steps and answers of the code are made of them by k_locks.
+//! `docs/SECTIONS.md` has the same tables in words. The contracts say that the code is these tables: `point` is the event of a
+//! step, by what the step was answered.
 //!
 //! The types have what is in hand as a value: a location at which a lock is held can't be without what the lock guards. No
 //! call takes memory, and none costs more than a look at each entry of the queue in hand.

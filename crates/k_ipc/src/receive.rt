@@ -3,11 +3,11 @@ ghost use Rattle.std.specs.Prelude.{◌≡◌, ◌≤◌, false, true, None, IfS
 ghost use Rattle.k_ids.specs.StateWords.{IsPartner, state_word_of};
 ghost use Rattle.k_model.specs.Step.{is_own};
 ghost use Rattle.k_locks.specs.declared.steps.Answer.{Answer};
-ghost use Rattle.k_locks.specs.Hands.{nothing};
+ghost use Rattle.k_locks.specs.Hands.{Hand, nothing};
 ghost use Rattle.k_locks.specs.Steps.{goes_on, suits};
 ghost use Rattle.k_locks.specs.Threads.{IsRunOf};
 ghost use Rattle.k_ipc.specs.Words.{IsPickingOf};
-ghost use Rattle.k_ipc.specs.ReceiveTable.{CanPush, IsFit, IsSound, IsSoundLocation, IsSoundLocked, Locked, asked, at_of, can_ask, hand_of, heard, is_open, left_of, left_own, left_picking, left_thread, left_wait, locks_of, receive_of, resumed, step_of, went_of};
+ghost use Rattle.k_ipc.specs.ReceiveTable.{CanPush, IsFit, IsSound, IsSoundLocation, IsSoundLocked, Locked, asked, at_of, can_ask, hand_of, heard, is_open, is_settled, left_of, left_own, left_picking, left_thread, left_wait, locks_of, receive_of, resumed, step_of, went_of};
 
 mod moves;
 mod points;
@@ -307,17 +307,39 @@ fn left_locked(call: ReceiveCall, at: ReceiveLocked, queue: &Senders) -> u32
     match at {
         ReceiveLocked::LoadOwn => left_own(call, count_all(queue, call.from)),
         ReceiveLocked::LoadSender(entry) => count_from(queue, call.from, entry) + 5,
-        ReceiveLocked::FreeSender(entry, _) => count_from(queue, call.from, entry) + 6,
+        ReceiveLocked::FreeSender(entry, _) | ReceiveLocked::LoadNext(entry) => count_from(
+            queue, call.from, entry,
+        ) + 6,
+        ReceiveLocked::FreeNext(entry, _) => count_from(queue, call.from, entry) + 7,
+        ReceiveLocked::LoadPicking => left_picking(count_all(queue, call.from)),
+        ReceiveLocked::AcquireReady(_)
+        | ReceiveLocked::CommitWait
+        | ReceiveLocked::LoadPartner(_)
+        | ReceiveLocked::CommitGone(_)
+        | ReceiveLocked::EndPick(_, _)
+        | ReceiveLocked::SettlePick
+        | ReceiveLocked::Release(_) => left_settled(call, at),
+    }
+}
+
+// Where no candidate is tried any more.
+fn left_settled(call: ReceiveCall, at: ReceiveLocked) -> u32
+    requires { is_settled at ≡ true }
+    ensures { (h : Hand) → result ≡ left_thread call h (Locked at) }
+{
+    match at {
         ReceiveLocked::AcquireReady(_) => 4,
         ReceiveLocked::CommitWait => left_wait(call),
         ReceiveLocked::LoadPartner(_) => 3,
-        ReceiveLocked::CommitGone(_) => 2,
-        ReceiveLocked::LoadPicking => left_picking(count_all(queue, call.from)),
-        ReceiveLocked::LoadNext(entry) => count_from(queue, call.from, entry) + 6,
-        ReceiveLocked::FreeNext(entry, _) => count_from(queue, call.from, entry) + 7,
+        ReceiveLocked::CommitGone(_) | ReceiveLocked::SettlePick => 2,
         ReceiveLocked::EndPick(_, _) => 5,
-        ReceiveLocked::SettlePick => 2,
         ReceiveLocked::Release(_) => 1,
+        ReceiveLocked::LoadOwn
+        | ReceiveLocked::LoadSender(_)
+        | ReceiveLocked::FreeSender(_, _)
+        | ReceiveLocked::LoadPicking
+        | ReceiveLocked::LoadNext(_)
+        | ReceiveLocked::FreeNext(_, _) => unreachable!(),
     }
 }
 

@@ -1,8 +1,7 @@
 // The section of a send.
 ghost use Rattle.std.specs.Prelude.{◌≡◌, true};
-ghost use Rattle.k_ids.specs.StateWords.{IsPartner, IsStateWord, state_word_of};
+ghost use Rattle.k_ids.specs.StateWords.{IsPartner, state_word_of};
 ghost use Rattle.k_locks.specs.declared.steps.Answer.{Answer};
-ghost use Rattle.k_locks.specs.Asks.{response_of};
 ghost use Rattle.k_locks.specs.Steps.{goes_on, suits};
 ghost use Rattle.k_locks.specs.Threads.{IsRunOf};
 ghost use Rattle.k_ipc.specs.declared.send.Manner.TheVariants as manner;

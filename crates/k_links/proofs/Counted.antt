@@ -1,12 +1,8 @@
 -- As many entries as numbers at most.
-use Rattle.std.proofs.Common.{◌≡◌, ◌<◌, ◌≤◌, ℕ, zero, suc, Bool, true, false, List, [], ◌∷◌, length, arith, refl, subst, ◌⊎◌, inl, inr}
-use Rattle.std.proofs.lemmas.Bool.{cases_eq}
+use Rattle.std.proofs.Common.{◌≡◌, ◌<◌, ◌≤◌, ℕ, zero, suc, true, false, List, [], ◌∷◌, length, arith, subst, inl, inr}
+use Rattle.std.proofs.lemmas.Bool.{cases_Bool, cases_eq}
 use Rattle.k_links.specs.Listed.{IsOnceEach, stands, without}
 use Rattle.k_links.proofs.Removed.{length_without, once_without, stands_without}
-
-cases_bool : (b : Bool) → (b ≡ true) ⊎ (b ≡ false)
-cases_bool true = inl refl
-cases_bool false = inr refl
 
 module _ {E : Type 0} (number : E → ℕ) where
   left_below : (n k : ℕ) (es : List E) → IsOnceEach number es → (stands number n es ≡ true → n < suc k) → stands number n (without number k es) ≡ true → n < k
@@ -19,7 +15,7 @@ module _ {E : Type 0} (number : E → ℕ) where
   ]
 
   few_more : (k : ℕ) (es : List E) → IsOnceEach number es → ((n : ℕ) → stands number n es ≡ true → n < suc k) → ((fs : List E) → IsOnceEach number fs → ((n : ℕ) → stands number n fs ≡ true → n < k) → length fs ≤ k) → length es ≤ suc k
-  few_more k es o h rec = elim (cases_bool (stands number k es)) [
+  few_more k es o h rec = elim (cases_Bool (stands number k es)) [
     | inl s ↦ omega (arith, length_without number k es s, rec (without number k es) (once_without number k es o) (λ n t. left_below n k es o (h n) t))
     | inr s ↦ omega (arith, rec es o (λ n t. other_below n k es (h n) s t))
   ]

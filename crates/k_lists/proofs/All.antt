@@ -13,11 +13,6 @@ pub all_both : {X : Type 0} (P Q R : X → Type 0) → ((x : X) → P x → Q x 
 all_both P Q R f [] h i = tt
 all_both P Q R f (x ∷ xs) h i = (f x h.0 i.0, all_both P Q R f xs h.1 i.1)
 
--- what holds of all holds of each of a list
-pub all_these : {X : Type 0} (P : X → Type 0) → ((x : X) → P x) → (xs : List X) → AllByRecursion P xs
-all_these P f [] = tt
-all_these P f (x ∷ xs) = (f x, all_these P f xs)
-
 -- LISTS PUT TOGETHER, AND TAKEN APART
 
 pub all_append : {X : Type 0} (P : X → Type 0) (xs ys : List X) → AllByRecursion P xs → AllByRecursion P ys → AllByRecursion P (xs ++ ys)

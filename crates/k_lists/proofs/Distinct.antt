@@ -18,7 +18,3 @@ pub distinct_left : {K : Type 0} (e : K → K → Bool) (xs ys : List K) → IsD
 unfolding IsDistinct
 distinct_left e [] ys h = tt
 distinct_left e (x ∷ xs) ys h = (all_left (λ y. e x y ≡ false) xs ys h.0, distinct_left e xs ys h.1)
-
-pub distinct_right : {K : Type 0} (e : K → K → Bool) (xs ys : List K) → IsDistinct e (xs ++ ys) → IsDistinct e ys
-distinct_right e [] ys h = h
-distinct_right e (x ∷ xs) ys h = distinct_right e xs ys (IsDistinct-tail e x (xs ++ ys) h)

@@ -5,13 +5,6 @@ pub chosen : {A : Type 0} (b : Bool) (x y z : A) → cond b x y ≡ z → ((b �
 chosen true x y z h = inl (refl, h)
 chosen false x y z h = inr (refl, h)
 
--- two tests that don't hold together change places
-pub exchanged : {A : Type 0} (b l : Bool) (x y z : A) → (l ≡ true → b ≡ false) → cond b x (cond l y z) ≡ cond l y (cond b x z)
-exchanged true true x y z h = absurd (let e = h refl in cc)
-exchanged true false x y z h = refl
-exchanged false true x y z h = refl
-exchanged false false x y z h = refl
-
 pub mapped : {A B : Type 0} (f : A → B) (o : Option A) (y : B) → option_map f o ≡ Some y → (x : A) × (o ≡ Some x) × (f x ≡ y)
 mapped f None y h = absurd cc
 mapped f (Some x) y h = (x, refl, cc)

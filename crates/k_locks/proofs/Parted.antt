@@ -1,6 +1,6 @@
 -- A queue, parted at the entry of a number.
-use Rattle.std.proofs.Common.{◌≡◌, ℕ, suc, Bool, true, false, Option, Some, None, List, [], ◌∷◌, ◌++◌, length, refl, sym, ap, ◌∙◌}
-use Rattle.std.specs.Prelude.{◌==◌, ◌||◌, drop, if◌then◌else◌}
+use Rattle.std.proofs.Common.{◌≡◌, ℕ, suc, Bool, true, false, Some, List, [], ◌∷◌, ◌++◌, length, refl, ap}
+use Rattle.std.specs.Prelude.{◌==◌, drop, if◌then◌else◌}
 use Rattle.k_senders.specs.declared.entries.SenderEntry.{SenderEntry}
 use Rattle.k_senders.specs.Entries.{number_of}
 use Rattle.k_senders.specs.Queue.{entry_of, stands}

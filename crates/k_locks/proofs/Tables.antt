@@ -1,12 +1,12 @@
 -- What a table has to show, location by location, so that its locks are released in time.
 use Rattle.std.proofs.Common.{◌≡◌, ℕ, ◌+◌, ◌*◌, ◌≤◌, Bool, true, false, not, List, [], ◌∷◌, length, refl, sym, ◌∙◌, arith}
 use Rattle.std.proofs.lemmas.Bool.{false≢true}
-use Rattle.std.specs.Prelude.{Option, Some, None, if◌then◌else◌, ◌-◌, ◌==◌}
+use Rattle.std.specs.Prelude.{Option, Some, ◌-◌}
 use Rattle.k_ids.specs.declared.state_word.StateWord.{StateWord}
 use Rattle.k_locks.specs.declared.locks.Lock.{Lock}
 use Rattle.k_locks.specs.declared.locks.Lock.TheVariants as lock
 use Rattle.k_locks.specs.declared.goods.Goods.{Goods}
-use Rattle.k_locks.specs.Asks.{Ask, Exchange, Response, Word, Lost, is_lost, suits_response}
+use Rattle.k_locks.specs.Asks.{Ask, Exchange, Response, Lost, is_lost, suits_response}
 use Rattle.k_locks.specs.Locks.{Holds}
 use Rattle.k_locks.specs.Hands.{Hand}
 use Rattle.k_locks.specs.Tables.{IsMade, IsReleasedInTime, Reached, Run, Table, begins, goes, hand_came, is_found, lost_in, lost_later, makes, misses, stops, there_after, with_lost}

@@ -9,7 +9,6 @@ use Rattle.k_ids.specs.StateWords.{state_bits, state_word_of}
 use Rattle.k_locks.specs.declared.locks.Lock.{Lock}
 use Rattle.k_locks.specs.declared.locks.Lock.TheVariants as lock
 use Rattle.k_locks.specs.declared.locks.WordName.TheVariants as word
-use Rattle.k_locks.specs.declared.goods.Goods.{Goods}
 use Rattle.k_locks.specs.declared.steps.Step.{Step}
 use Rattle.k_locks.specs.declared.steps.Step.TheVariants as step
 use Rattle.k_locks.specs.declared.steps.Answer.{Answer}

@@ -47,16 +47,6 @@ becomes context (step.Release lock goods) found = lock_bits Free
 becomes context (step.Place id program priority) found = exchanged (context_bits Empty) (context_bits (Clean id.version)) found
 becomes context (step.Remove id) found = exchanged (context_bits (Clean id.version)) (context_bits Empty) found
 
--- what a step sees of the word: nothing, so 0, where it is a store
-abbrev pub noted : Step → ℕ → ℕ
-noted (step.Load word) found = found
-noted (step.Store word value) found = 0
-noted (step.Exchange word old new) found = found
-noted (step.Acquire lock) found = found
-noted (step.Release lock goods) found = 0
-noted (step.Place id program priority) found = found
-noted (step.Remove id) found = found
-
 -- WHAT MOVES ALONG
 
 -- the lock whose goods come with the step

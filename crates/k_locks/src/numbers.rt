@@ -1,5 +1,5 @@
 // The thread numbers: which have a thread, and of which version.
-ghost use Rattle.std.specs.Prelude.{◌≡◌, ◌<◌, ◌≤◌, ◌≢◌, ℕ, true, false, length, IfSome};
+ghost use Rattle.std.specs.Prelude.{◌≡◌, ◌<◌, ◌≤◌, true, length, IfSome};
 ghost use Rattle.k_model.specs.Step.{last_version};
 ghost use Rattle.k_locks.specs.Numbers.{alive, is_free, is_present, is_worn, lowest_free, version_at, with_thread, without_thread, worn};
 

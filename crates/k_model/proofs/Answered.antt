@@ -8,7 +8,8 @@ use Rattle.std.proofs.lemmas.Bool.Decides.{eqb_tells}
 use Rattle.std.proofs.lemmas.List.{length_push, append-nil}
 use Rattle.std.proofs.lemmas.Map.Keys.{IsDistinct-head, IsDistinct-tail, IsDistinct-cons}
 use Rattle.std.proofs.lemmas.List.Quantifiers.{position-Some}
-use Rattle.k_lists.proofs.All.{all_at, all_push, all_weaker}
+use Rattle.std.proofs.Math.Bool.{and-false}
+use Rattle.k_lists.proofs.All.{all_at, all_of_none, all_push, all_right, all_weaker}
 use Rattle.k_ids.specs.declared.threads.ThreadId.{ThreadId}
 use Rattle.k_ids.specs.declared.threads.Message.{Message}
 use Rattle.k_ids.specs.declared.threads.Status.{Status}
@@ -78,10 +79,6 @@ some_stays id serial r (x ∷ xs) ms h = go (is_reply_to id serial x) refl h (so
 pub other_number : (id : ThreadId) (serial : ℕ) (l : ReplyLine) → l.id.number ≢ id.number → is_reply_to id serial l ≡ false
 other_number id serial l ne = rw (ne_eqb l.id.number id.number ne) refl
 
-no_right : (a : Bool) → (a && false) ≡ false
-no_right true = refl
-no_right false = refl
-
 no_middle : (a c : Bool) → ((a && false) && c) ≡ false
 no_middle true c = refl
 no_middle false c = refl
@@ -90,7 +87,7 @@ other_version : (id : ThreadId) (serial : ℕ) (l : ReplyLine) → l.id.version 
 other_version id serial l ne = rw (ne_eqb l.id.version id.version ne) (no_middle (l.id.number == id.number) (l.serial == serial))
 
 other_serial : (id : ThreadId) (serial : ℕ) (l : ReplyLine) → l.serial ≢ serial → is_reply_to id serial l ≡ false
-other_serial id serial l ne = rw (ne_eqb l.serial serial ne) (no_right (same_id l.id id))
+other_serial id serial l ne = rw (ne_eqb l.serial serial ne) (and-false (same_id l.id id))
 
 once_push : (ls : List ReplyLine) (l : ReplyLine) → IsDistinct same_call ls → AllByRecursion (λ x. same_call x l ≡ false) ls → IsDistinct same_call (ls ++ l ∷ [])
 once_push [] l d h = IsDistinct-cons same_call l [] tt d
@@ -102,10 +99,6 @@ once_push (x ∷ xs) l d h =
 once_right : (ls ms : List ReplyLine) → IsDistinct same_call (ls ++ ms) → IsDistinct same_call ms
 once_right [] ms d = d
 once_right (x ∷ xs) ms d = once_right xs ms (IsDistinct-tail same_call x (xs ++ ms) d)
-
-all_right : {X : Type 0} (P : X → Type 0) (xs ys : List X) → AllByRecursion P (xs ++ ys) → AllByRecursion P ys
-all_right P [] ys h = h
-all_right P (x ∷ xs) ys h = all_right P xs ys h.1
 
 across : (ls ms : List ReplyLine) → IsDistinct same_call (ls ++ ms) → AllByRecursion (λ m. AllByRecursion (λ l. same_call l m ≡ false) ls) ms
 across [] ms d = trivial ms
@@ -208,10 +201,6 @@ place-grown old most k n p ev es waits g =
       last = all_weaker (λ l. IsLastCall k l.id l.serial) (λ l. IsLastCall m l.id l.serial) (λ l h. record { version = versions l.id.number ∙ h.version; serial_is = serials l.id.number ∙ h.serial_is }) g.lines g.last;
       few = g.few;
     }
-
-all_of_none : {X : Type 0} (P : X → Type 0) (xs : List X) → length xs ≤ 0 → AllByRecursion P xs
-all_of_none P [] l = tt
-all_of_none P (x ∷ xs) l = absurd (omega (arith, l))
 
 -- Before any line: a number goes on to a place that doesn't wait.
 fresh-grown : (old k : KernelState) (n : ℕ) (p : Place) → ((k.place n).version < p.version) ⊎ (((k.place n).version ≡ p.version) × ((k.place n).serial ≤ p.serial)) → is_waiting p.status ≡ false → IsGrown old 0 k → IsGrown old 0 (with_place k n p)

@@ -7,6 +7,7 @@ use Rattle.std.proofs.lemmas.Map.Keys.{IsDistinct-cons}
 use Rattle.std.proofs.lemmas.List.{length-map}
 use Rattle.std.proofs.lemmas.List.Quantifiers.{position-Some}
 use Rattle.k_lists.proofs.All.{all_at, all_both, all_filter, all_filtered, all_map, all_push, all_remove, all_weaker}
+use Rattle.std.proofs.Math.Bool.{and-false}
 use Rattle.k_ids.specs.declared.threads.ThreadId.{ThreadId}
 use Rattle.k_ids.specs.declared.threads.Message.{Message}
 use Rattle.k_ids.specs.declared.threads.Status.{Status}
@@ -380,11 +381,7 @@ unfolding killed
 killed_absent k victim =
     let left = left_everywhere k victim in
     let p = record (left.place victim.number) { status = status.Dead; joined = false; waiting = [] } in
-    rw (upd_same left.place victim.number p) (no_right ((k.place victim.number).version == victim.version))
-  where
-    no_right : (a : Bool) → (a && false) ≡ false
-    no_right true = refl
-    no_right false = refl
+    rw (upd_same left.place victim.number p) (and-false ((k.place victim.number).version == victim.version))
 
 pub killed_empty : (k : KernelState) (victim : ThreadId) → ((killed k victim).place victim.number).waiting ≡ []
 unfolding killed

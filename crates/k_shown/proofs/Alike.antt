@@ -1,5 +1,5 @@
 -- What a row needs of a memory: who may act, and one word that changes.
-use Rattle.std.proofs.Common.{◌≡◌, ℕ, Bool, true, false, not, ◌&&◌, eqb, [], ◌∷◌, ◌++◌, refl, sym, ap, ◌∙◌, Some, None}
+use Rattle.std.proofs.Common.{◌≡◌, ℕ, Bool, true, false, not, ◌&&◌, eqb, [], ◌∷◌, ◌++◌, refl, sym, ap, ◌∙◌, Some, None, Ok, List}
 use Rattle.std.specs.Prelude.{if◌then◌else◌}
 use Rattle.std.proofs.lemmas.Bool.{eq-eqb, cond_both}
 use Rattle.std.proofs.lemmas.List.{append-nil}
@@ -8,6 +8,8 @@ use Rattle.k_ids.specs.declared.threads.Status.{Status}
 use Rattle.k_ids.specs.declared.threads.Status.TheVariants as status
 use Rattle.k_ids.specs.declared.calls.Phase.{Phase}
 use Rattle.k_ids.specs.declared.calls.Outcome.{Outcome}
+use Rattle.k_ids.specs.declared.histories.Event.{Event}
+use Rattle.k_ids.specs.declared.histories.ReplyLine.{ReplyLine}
 use Rattle.k_ids.specs.declared.calls.Reply.{Reply}
 use Rattle.k_ids.specs.declared.calls.Reply.TheVariants as reply
 use Rattle.k_ids.specs.declared.state_word.State.{State}
@@ -15,10 +17,10 @@ use Rattle.k_ids.specs.declared.state_word.State.TheVariants as state
 use Rattle.k_ids.specs.declared.state_word.StateWord.{StateWord}
 use Rattle.k_locks.specs.Shown.{shows, found_in, is_dead_state, is_present_in}
 use Rattle.k_model.specs.State.{KernelState, answered, found_of, is_dead, is_present, is_run, waits_for_absent, with_status}
-use Rattle.k_model.specs.Step.{is_enabled, outcome_of, sent}
+use Rattle.k_model.specs.Step.{step, is_enabled, outcome_of, sent}
 use Rattle.k_shown.specs.Memory.{Memory, Shows, joined_of, table, waiting, with_word}
 use Rattle.k_shown.specs.Sound.{IsCaller, IsPicker}
-use Rattle.k_shown.specs.Rows.{Alike, Answers, IsIn, IsWordOf, call_of, called_by, next_serial, sent_line, told}
+use Rattle.k_shown.specs.Rows.{Alike, Answers, Gives, IsIn, IsWordOf, call_of, called_by, next_serial, sent_line, told}
 use Rattle.k_shown.proofs.Shown.{shows_answered, shows_called, shows_status}
 
 pub shows_alike : (m m' : Memory) (k : KernelState) → Shows m k → Alike m m' → Shows m' k
@@ -108,6 +110,11 @@ module _ (m : Memory) (k : KernelState) (h : Shows m k) where
     replies = refl;
     shows = shows_alike m m' _ (shows_answered m (called_by k me) me (next_serial k me) r (shows_called m k me (next_serial k me) h)) a;
   }
+
+-- So the event is a step of the specification.
+pub gives_step : (k : KernelState) (event : Event) (o : Outcome) (k' : KernelState) (lines : List ReplyLine) (m' : Memory) → Gives k event o k' lines m' → step k event ≡ Ok (k', o)
+unfolding step
+gives_step k event o k' lines m' g = rw (g.enabled) (ap (λ (r : KernelState × Outcome). Ok r) g.makes)
 
 -- A SENDER WHOSE MESSAGE HAS PASSED
 

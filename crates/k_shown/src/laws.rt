@@ -4,10 +4,13 @@ ghost use Rattle.k_shown.specs.Boot.{IsOpening, boot, boot_word};
 ghost use Rattle.k_shown.specs.Memory.{Memory, Shows, joined_of, table, waiting, with_queue, with_word};
 ghost use Rattle.k_shown.specs.Rows.{Alike, Answers, Gives, IsFirst, IsIn, IsUnwanted, IsWordOf, Sending, call_of, called_by, gone_of, next_serial, pick_of, sending_of, sent_line, taking, told, waiting_without};
 ghost use Rattle.k_shown.specs.Sound.{IsCaller, IsSoundMemory, IsSoundNumbers};
+ghost use Rattle.k_ids.specs.declared.calls.Outcome.{Outcome};
 ghost use Rattle.k_ids.specs.declared.calls.Outcome.TheVariants as outcome;
 ghost use Rattle.k_ids.specs.declared.calls.Phase.{Phase};
 ghost use Rattle.k_ids.specs.declared.calls.Phase.TheVariants as phase;
 ghost use Rattle.k_ids.specs.declared.calls.Reply.TheVariants as reply;
+ghost use Rattle.k_ids.specs.declared.histories.Event.{Event};
+ghost use Rattle.k_ids.specs.declared.histories.ReplyLine.{ReplyLine};
 ghost use Rattle.k_ids.specs.declared.state_word.StateWord.{StateWord};
 ghost use Rattle.k_ids.specs.declared.threads.Status.{Status};
 ghost use Rattle.k_ids.specs.declared.threads.Status.TheVariants as status;
@@ -17,9 +20,9 @@ ghost use Rattle.k_locks.specs.Shown.{found_in, is_present_in, shows};
 ghost use Rattle.k_model.specs.History.{opened};
 ghost use Rattle.k_model.specs.Maps.{upd};
 ghost use Rattle.k_model.specs.State.{KernelState, Waiting, answered, same_id, takes_from, waits_for_absent, with_status};
-ghost use Rattle.k_model.specs.Step.{is_own, killed, passed, queued, renewed, status_after, taken};
+ghost use Rattle.k_model.specs.Step.{is_own, killed, passed, queued, renewed, status_after, step, taken};
 ghost use Rattle.k_senders.specs.Queue.{Queue};
-ghost use Rattle.std.specs.Prelude.{Bool, List, None, Option, Some, [], false, length, true, ℕ, ◌+◌, ◌++◌, ◌<◌, ◌∷◌, ◌≡◌};
+ghost use Rattle.std.specs.Prelude.{Bool, List, None, Ok, Option, Some, [], false, length, true, ℕ, ◌+◌, ◌++◌, ◌<◌, ◌∷◌, ◌≡◌};
 
 /// The memory in which a kernel begins is sound, and shows the opening state; each of its threads runs, and may make a call.
 pub fn a_boot_memory_is_sound()
@@ -31,6 +34,11 @@ pub fn a_boot_memory_is_sound()
 /// What is shown depends on versions, statuses, joined sends and waiting senders alone.
 pub fn alike_memories_show_the_same()
     ensures { (m m' : Memory) (k : KernelState) → Shows m k → Alike m m' → Shows m' k }
+{}
+
+/// What a row gives is a step of the specification: the state that it names is the one that the event leaves.
+pub fn a_row_is_a_step()
+    ensures { (k : KernelState) (event : Event) (o : Outcome) (k' : KernelState) (lines : List ReplyLine) (m' : Memory) → Gives k event o k' lines m' → step k event ≡ Ok (k', o) }
 {}
 
 /// A send, a call or a reply: it is refused, or its message passes and the receiver runs, or its caller waits, last in the

@@ -15,6 +15,6 @@ mod laws;
 
 pub use laws::{
     a_boot_memory_is_sound, a_create_is_shown, a_destroy_is_shown, a_gone_event_is_shown,
-    a_pick_is_shown, a_receive_is_shown, a_send_is_shown, alike_memories_show_the_same,
-    an_end_is_shown,
+    a_pick_is_shown, a_receive_is_shown, a_row_is_a_step, a_send_is_shown,
+    alike_memories_show_the_same, an_end_is_shown,
 };

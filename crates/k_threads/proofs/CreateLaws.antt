@@ -1,6 +1,6 @@
 -- The table of a create: what holds of each location.
 use Rattle.std.proofs.Common.{◌≡◌, true, false, inl, inr, refl, sym, ◌∙◌, arith}
-use Rattle.std.proofs.lemmas.Bool.{false≢true}
+use Rattle.std.proofs.lemmas.Bool.{cases_Bool, false≢true}
 use Rattle.std.proofs.lemmas.Grind.{common_steps}
 use Rattle.k_ids.specs.declared.state_word.StateWord.{StateWord}
 use Rattle.k_locks.specs.declared.locks.Lock.TheVariants as lock
@@ -21,7 +21,7 @@ use Rattle.k_threads.specs.Went.{makes, went_on}
 use Rattle.k_threads.specs.Words.{done_after}
 use Rattle.k_threads.specs.declared.create.CreateSection.{CreateSection}
 use Rattle.k_locks.proofs.Responses.{again_heard}
-use Rattle.k_threads.proofs.Steps.{made_or_not, never_unmade, on_again, same_answers}
+use Rattle.k_threads.proofs.Steps.{never_unmade, on_again, same_answers}
 
 -- A LOCATION AND WHAT IS IN HAND
 
@@ -87,7 +87,7 @@ waits_for_it c own (location.ListsReturned id numbers) a e m = absurd (never_unm
 waits_for_it c own (location.NumbersReturned r) a e m = absurd (never_unmade lock.Table (hand_after c (hand_of (location.NumbersReturned r)) (Locked (Release r)) plain.Released) a e m)
 
 pub resumed_answered : (c : CreateCall) (own : StateWord) (l : CreateLocation) (a : Answer) → suits (next_of c own (hand_of l) (at_of l)) a ≡ true → can_ask (resumed_location c own l a) ≡ is_open (at_of (resumed_location c own l a))
-resumed_answered c own l a e = elim (made_or_not (makes (next_of c own (hand_of l) (at_of l)) a)) [
+resumed_answered c own l a e = elim (cases_Bool (makes (next_of c own (hand_of l) (at_of l)) a)) [
   | inl m ↦ rw m (moved (hand_with a (hand_after c (hand_of l) (at_of l) (response_at c own (at_of l) a))) (leads c (hand_of l) (at_of l) (response_at c own (at_of l) a)))
   | inr m ↦ rw m (waits_for_it c own l a e m)
 ]
@@ -109,7 +109,7 @@ open_after c h (Locked p) r o = grind (arith, common_steps)
 open_after c h (PushCreated id) r o = grind (arith, common_steps)
 
 pub resumed_open : (c : CreateCall) (own : StateWord) (l : CreateLocation) (a : Answer) → is_open (at_of l) ≡ true → is_open (at_of (resumed_location c own l a)) ≡ goes_on (resumed_went c own (hand_of l) (at_of l) a)
-resumed_open c own l a o = elim (made_or_not (makes (next_of c own (hand_of l) (at_of l)) a)) [
+resumed_open c own l a o = elim (cases_Bool (makes (next_of c own (hand_of l) (at_of l)) a)) [
   | inl m ↦ rw (m, at_with (hand_with a (hand_after c (hand_of l) (at_of l) (response_at c own (at_of l) a))) (leads c (hand_of l) (at_of l) (response_at c own (at_of l) a))) (open_after c (hand_of l) (at_of l) (response_at c own (at_of l) a) o)
   | inr m ↦ rw m (o ∙ sym (on_again a))
 ]
@@ -117,13 +117,13 @@ resumed_open c own l a o = elim (made_or_not (makes (next_of c own (hand_of l) (
 -- BY AN ANSWER THAT THE STEP CAN HAVE, AND BY ANOTHER
 
 pub resumed_suits : (s : CreateSection) (a : Answer) → suits (step_of s) a ≡ true → record s { location = resumed_location s.call s.own s.location a; done = done_after a s.done } ≡ resumed s a
-resumed_suits s a e = elim (made_or_not (is_again a)) [
+resumed_suits s a e = elim (cases_Bool (is_again a)) [
   | inl q ↦ rw (e, q) refl
   | inr q ↦ rw (e, q) refl
 ]
 
 pub went_suits : (s : CreateSection) (a : Answer) → suits (step_of s) a ≡ true → resumed_went s.call s.own (hand_of s.location) (at_of s.location) a ≡ went_of s.call (hand_of s.location) (at_of s.location) (heard s a)
-went_suits s a e = elim (made_or_not (is_again a)) [
+went_suits s a e = elim (cases_Bool (is_again a)) [
   | inl q ↦ rw (e, q, sym (again_heard (ask_of s.call s.own (at_of s.location)) a) ∙ q) refl
   | inr q ↦ rw (e, q, sym (again_heard (ask_of s.call s.own (at_of s.location)) a) ∙ q) refl
 ]

@@ -1,6 +1,6 @@
 -- The table of a destroy: what holds of each location.
 use Rattle.std.proofs.Common.{◌≡◌, Bool, true, false, [], inl, inr, refl, sym, ap, ◌∙◌, arith}
-use Rattle.std.proofs.lemmas.Bool.{false≢true}
+use Rattle.std.proofs.lemmas.Bool.{cases_Bool, false≢true}
 use Rattle.std.proofs.lemmas.Grind.{common_steps}
 use Rattle.std.specs.Prelude.{if◌then◌else◌}
 use Rattle.k_ids.specs.declared.state_word.StateWord.{StateWord}
@@ -31,7 +31,7 @@ use Rattle.k_threads.specs.Went.{makes, went_on}
 use Rattle.k_threads.specs.Words.{done_after}
 use Rattle.k_threads.specs.declared.destroy.DestroySection.{DestroySection}
 use Rattle.k_locks.proofs.Responses.{again_heard}
-use Rattle.k_threads.proofs.Steps.{made_or_not, never_unmade, on_again, same_answers}
+use Rattle.k_threads.proofs.Steps.{never_unmade, on_again, same_answers}
 
 -- A LOCATION AND WHAT IS IN HAND
 
@@ -157,7 +157,7 @@ waits_for_it c own (location.Returned (returned.Pushed (PushSender sender seen) 
 waits_for_it c own (location.Returned (returned.Pushed (PushVisited visited seen) numbers queue)) a e m = absurd (never_unmade lock.Ready (hand_after c (hand_of (location.Returned (returned.Pushed (PushVisited visited seen) numbers queue))) (at_of (location.Returned (returned.Pushed (PushVisited visited seen) numbers queue))) plain.Released) a e m)
 
 pub resumed_answered : (c : DestroyCall) (own : StateWord) (l : DestroyLocation) (a : Answer) → suits (next_of c own (hand_of l) (at_of l)) a ≡ true → can_ask (resumed_location c own l a) ≡ is_open (at_of (resumed_location c own l a))
-resumed_answered c own l a e = elim (made_or_not (makes (next_of c own (hand_of l) (at_of l)) a)) [
+resumed_answered c own l a e = elim (cases_Bool (makes (next_of c own (hand_of l) (at_of l)) a)) [
   | inl m ↦ rw m (moved (hand_with a (hand_after c (hand_of l) (at_of l) (response_at c own (at_of l) a))) (leads c (hand_of l) (at_of l) (response_at c own (at_of l) a)))
   | inr m ↦ rw m (waits_for_it c own l a e m)
 ]
@@ -190,7 +190,7 @@ open_after c h UnlistVictim r o = grind (arith, common_steps)
 open_after c h (Pushing p) r o = grind (arith, common_steps)
 
 pub resumed_open : (c : DestroyCall) (own : StateWord) (l : DestroyLocation) (a : Answer) → is_open (at_of l) ≡ true → is_open (at_of (resumed_location c own l a)) ≡ goes_on (resumed_went c own (hand_of l) (at_of l) a)
-resumed_open c own l a o = elim (made_or_not (makes (next_of c own (hand_of l) (at_of l)) a)) [
+resumed_open c own l a o = elim (cases_Bool (makes (next_of c own (hand_of l) (at_of l)) a)) [
   | inl m ↦ rw (m, at_with (hand_with a (hand_after c (hand_of l) (at_of l) (response_at c own (at_of l) a))) (leads c (hand_of l) (at_of l) (response_at c own (at_of l) a))) (open_after c (hand_of l) (at_of l) (response_at c own (at_of l) a) o)
   | inr m ↦ rw m (o ∙ sym (on_again a))
 ]
@@ -198,13 +198,13 @@ resumed_open c own l a o = elim (made_or_not (makes (next_of c own (hand_of l) (
 -- BY AN ANSWER THAT THE STEP CAN HAVE, AND BY ANOTHER
 
 pub resumed_suits : (s : DestroySection) (a : Answer) → suits (step_of s) a ≡ true → record s { location = resumed_location s.call s.own s.location a; done = done_after a s.done } ≡ resumed s a
-resumed_suits s a e = elim (made_or_not (is_again a)) [
+resumed_suits s a e = elim (cases_Bool (is_again a)) [
   | inl q ↦ rw (e, q) refl
   | inr q ↦ rw (e, q) refl
 ]
 
 pub went_suits : (s : DestroySection) (a : Answer) → suits (step_of s) a ≡ true → resumed_went s.call s.own (hand_of s.location) (at_of s.location) a ≡ went_of s.call (hand_of s.location) (at_of s.location) (heard s a)
-went_suits s a e = elim (made_or_not (is_again a)) [
+went_suits s a e = elim (cases_Bool (is_again a)) [
   | inl q ↦ rw (e, q, sym (again_heard (ask_of s.call s.own (at_of s.location)) a) ∙ q) refl
   | inr q ↦ rw (e, q, sym (again_heard (ask_of s.call s.own (at_of s.location)) a) ∙ q) refl
 ]

@@ -1,5 +1,5 @@
 -- Answers of steps: which can come doesn't depend on what is in hand, and what an answer leaves where it makes no step.
-use Rattle.std.proofs.Common.{◌≡◌, Bool, true, false, not, ◌⊎◌, inl, inr, refl, sym, ◌∙◌}
+use Rattle.std.proofs.Common.{◌≡◌, Bool, true, false, not, refl, sym, ◌∙◌}
 use Rattle.std.proofs.lemmas.Bool.{false≢true}
 use Rattle.std.specs.Prelude.{if◌then◌else◌}
 use Rattle.k_locks.specs.declared.steps.Answer.{Answer}
@@ -24,10 +24,6 @@ same_answers (Release l) h g (answer.Got goods) = refl
 same_answers (Release l) h g (answer.Told t) = refl
 same_answers (Place id program priority) h g x = refl
 same_answers (Remove id) h g x = refl
-
-pub made_or_not : (b : Bool) → (b ≡ true) ⊎ (b ≡ false)
-made_or_not true = inl refl
-made_or_not false = inr refl
 
 -- an answer that the step can have and that doesn't make it asks for it again
 pub again_unmade : (s : Step) (x : Answer) → suits s x ≡ true → makes s x ≡ false → is_again x ≡ true

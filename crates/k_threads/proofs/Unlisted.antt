@@ -1,6 +1,6 @@
 -- A thread that is taken out of the list in which it stands is taken out of all lists.
-use Rattle.std.proofs.Common.{◌≡◌, ◌≢◌, ◌<◌, ℕ, Bool, true, false, List, [], ◌∷◌, length, map, get_or, set, length-set, get_or-set_same, get_or-set_other, refl, sym, ◌∙◌, ap, subst, ◌⊎◌, inl, inr, arith}
-use Rattle.std.proofs.lemmas.Bool.{cases_eq}
+use Rattle.std.proofs.Common.{◌≡◌, ◌≢◌, ◌<◌, ℕ, true, false, List, [], ◌∷◌, length, map, get_or, set, length-set, get_or-set_same, get_or-set_other, refl, sym, ◌∙◌, ap, subst, inl, inr, arith}
+use Rattle.std.proofs.lemmas.Bool.{cases_Bool, cases_eq}
 use Rattle.std.proofs.lemmas.Grind.{common_steps}
 use Rattle.std.proofs.lemmas.List.{ext_get_or, get_or-map, length-map}
 use Rattle.k_ids.specs.declared.threads.ThreadId.{ThreadId}
@@ -16,11 +16,6 @@ taken_out id es h = rw h refl
 
 left_alone : (id : ThreadId) (es : List ThreadId) → has_thread id es ≡ false → without_it id es ≡ es
 left_alone id es h = rw h refl
-
--- whether a thread stands in a list
-told : (b : Bool) → (b ≡ true) ⊎ (b ≡ false)
-told true = inl refl
-told false = inr refl
 
 nowhere : (id : ThreadId) (lists : List (List ThreadId)) → ((p : ℕ) → has_thread id (list_of lists p) ≡ false) → map (without_it id) lists ≡ lists
 nowhere id lists h = ext_get_or [] (map (without_it id) lists) lists (length-map lists (without_it id)) (λ i l.
@@ -39,7 +34,7 @@ somewhere id lists p inside h others = ext_get_or [] (set lists p (without id.nu
 pub one_unlisted : (id : ThreadId) (before after : Ready) (p : ℕ) → length before.lists ≡ 64 → ((n a b : ℕ) → stands n (list_of before.lists a) ≡ true → stands n (list_of before.lists b) ≡ true → a ≡ b) → IsRemoved before after id p → after ≡ unlisted id before
 one_unlisted id before after p size one r =
     let inside : p < length before.lists = rw size r.inside in
-    let others : (q : ℕ) → q ≢ p → has_thread id (list_of before.lists q) ≡ false = λ q ne. elim (told (has_thread id (list_of before.lists q))) [
+    let others : (q : ℕ) → q ≢ p → has_thread id (list_of before.lists q) ≡ false = λ q ne. elim (cases_Bool (has_thread id (list_of before.lists q))) [
       | inl h ↦ absurd (ne (one id.number q p (thread_stands id _ h) (thread_stands id _ r.standing)))
       | inr h ↦ h
     ] in

@@ -1,5 +1,5 @@
 // The linearization points of a receive and of a pick.
-ghost use Rattle.std.specs.Prelude.{◌≡◌, None, Option};
+ghost use Rattle.std.specs.Prelude.{◌≡◌};
 ghost use Rattle.k_ids.specs.declared.state_word.StateWord.{StateWord};
 ghost use Rattle.k_senders.specs.Entries.{message_of, sender_of};
 ghost use Rattle.k_locks.specs.declared.steps.Answer.TheVariants as answers;
@@ -7,7 +7,7 @@ ghost use Rattle.k_locks.specs.Asks as asks;
 ghost use Rattle.k_locks.specs.Asks.{told_of};
 ghost use Rattle.k_locks.specs.Hands.{Hand, nothing};
 ghost use Rattle.k_ids.specs.declared.calls.Outcome.TheVariants as outcome;
-ghost use Rattle.k_ids.specs.StateWords.{IsStateSpelling, IsStateWord, state_word_of};
+ghost use Rattle.k_ids.specs.StateWords.{IsStateWord};
 ghost use Rattle.k_ipc.specs.ReceiveTable.{IsFit, IsSound, IsSoundLocked, Locked, Outside, act_of, ask_of, at_of, hand_of, heard, nobody_left, point_by, points};
 
 use crate::candidates::{first_candidate, next_candidate};

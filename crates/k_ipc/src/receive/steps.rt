@@ -4,7 +4,6 @@ ghost use Rattle.k_ids.specs.declared.state_word.StateWord.{StateWord};
 ghost use Rattle.k_ids.specs.StateWords.{IsPartner, state_bits};
 ghost use Rattle.k_ready.specs.Lists.{IsInNone};
 ghost use Rattle.k_senders.specs.Entries.{number_of, sender_of};
-ghost use Rattle.k_senders.specs.Queue.{Queue};
 ghost use Rattle.k_locks.specs.declared.locks.WordName.TheVariants as word;
 ghost use Rattle.k_locks.specs.declared.steps.Step.TheVariants as step;
 ghost use Rattle.k_locks.specs.Asks as asks;

@@ -1,8 +1,7 @@
 // The linearization points of a send.
-ghost use Rattle.std.specs.Prelude.{◌≡◌, None};
+ghost use Rattle.std.specs.Prelude.{◌≡◌};
 ghost use Rattle.k_ids.specs.declared.state_word.StateWord.{StateWord};
 ghost use Rattle.k_locks.specs.declared.steps.Answer.TheVariants as answers;
-ghost use Rattle.k_locks.specs.Asks as asks;
 ghost use Rattle.k_locks.specs.Asks.{told_of};
 ghost use Rattle.k_locks.specs.Hands.{Hand};
 ghost use Rattle.k_ipc.specs.SendTable.{IsFit, Locked, Outside, ask_of, at_of, hand_of, heard, phase_by, point_of, points, refusal_of};

@@ -2,7 +2,8 @@ use Rattle.std.proofs.Common.{◌≡◌, ◌+◌, List, map, position, sym, ap, 
 use Rattle.std.proofs.lemmas.List.{take-map, drop-map}
 use Rattle.k_text.specs.Texts.{Word}
 use Rattle.k_history.specs.Reading.{is_arrow, result_of, result_at}
-use Rattle.k_history.proofs.Cut.{position_map, rest_at}
+use Rattle.k_lists.proofs.Cuts.{rest_at}
+use Rattle.k_lists.proofs.Positions.{position_map}
 use Rattle.k_history.proofs.reading.result_of.Goals as goal
 
 -- what the place of the arrow makes of the words

@@ -1,0 +1,4 @@
+pub mod Waits
+pub mod Switches
+pub mod Owns
+pub mod Activities

@@ -10,8 +10,10 @@ mod activity;
 mod owner;
 mod switch;
 mod thread;
+mod thread_context;
 
 pub use activity::Activity;
 pub use owner::{Goal, Owner, Ran, Switched};
 pub use switch::{Switch, SwitchCall, SwitchLocation, SwitchLocked};
 pub use thread::ThreadLocation;
+pub use thread_context::ThreadContext;

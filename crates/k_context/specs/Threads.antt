@@ -1,0 +1,98 @@
+-- A thread's context: it makes the calls of its program, one section each. All of it is seen but for one thing: the place in the
+-- program is seen as the operations that are left.
+use Rattle.std.specs.Prelude.{ℕ, ◌≤◌, ◌<◌, true, false, Option, None, IfSome}
+use Rattle.k_ids.specs.declared.threads.ThreadId.{ThreadId}
+use Rattle.k_ids.specs.declared.calls.Phase.{Phase}
+use Rattle.k_ids.specs.declared.calls.Phase.TheVariants as phase
+use Rattle.k_ids.specs.declared.calls.Reply.{Reply}
+use Rattle.k_ids.specs.declared.state_word.Result4.TheVariants as result4
+use Rattle.k_ids.specs.declared.state_word.State.TheVariants as state
+use Rattle.k_ids.specs.declared.state_word.StateWord.{StateWord}
+use Rattle.k_ids.specs.StateWords.{IsPartner}
+use Rattle.k_locks.specs.declared.steps.Step.{Step}
+use Rattle.k_locks.specs.Steps.{one_more}
+use Rattle.k_script.specs.Script.{Script}
+use Rattle.k_script.specs.Plays.{IsInRange, IsWithin, Position, next_of, start_of, went_on}
+use Rattle.k_script.specs.declared.registers.Next.{Next}
+use Rattle.k_script.specs.declared.registers.Next.TheVariants as next
+use Rattle.k_ipc.specs.declared.send.Manner.TheVariants as manner
+use Rattle.k_ipc.specs.SendTable as send
+use Rattle.k_ipc.specs.ReceiveTable as receive
+use Rattle.k_threads.specs.CreateTable as create
+use Rattle.k_threads.specs.DestroyTable as destroy
+use Rattle.k_context.specs.declared.thread.ThreadLocation.TheVariants as location
+use Rattle.k_context.specs.declared.activity.Activity.{Activity}
+use Rattle.k_context.specs.declared.activity.Activity.TheVariants as activity
+use Rattle.k_context.specs.Activities.{IsSoundAt, asked_activity, step_at}
+
+-- What a thread's context is. `own` is the thread's state word as the context knows it, where no section has its own.
+pub record ThreadSeen : Type 0 where
+  pub id : ThreadId
+  pub position : Position  -- in its program, whose last reply isn't taken in yet
+  pub own : StateWord
+  pub serial : ℕ  -- of its last call, 0 before the first
+  pub done : ℕ  -- the steps that were made for this call
+  pub activity : Activity
+
+-- a new thread: it runs, and is on
+abbrev pub new_word : ThreadId → ℕ → StateWord
+new_word id priority = record { version = id.version; priority = priority; on = true; state = state.Run result4.Plain }
+
+abbrev pub thread_of : Script → ThreadId → ℕ → ℕ → ThreadSeen
+thread_of script id program priority = record {
+  id = id;
+  position = start_of script program id;
+  own = new_word id priority;
+  serial = 0;
+  done = 0;
+  activity = activity.Alone (location.Between None);
+}
+
+-- THE NEXT CALL begins when the context is asked for a step
+
+-- what a call is made by, in a table of this size
+abbrev pub begun_by : ℕ → ThreadId → StateWord → Phase → Activity
+begun_by table me own (phase.Send to message zero joined) = activity.Send (send.send_of (record { caller = me; to = to; message = message; zero = zero; manner = send.manner_of joined }) own)
+begun_by table me own (phase.Reply to message zero) = activity.Send (send.send_of (record { caller = me; to = to; message = message; zero = zero; manner = manner.Reply }) own)
+begun_by table me own (phase.Receive from zero) = activity.Receive (receive.receive_of (record { caller = me; from = from; zero = zero; picks = false }) own)
+begun_by table me own (phase.Create program priority) = activity.Create (create.create_of (record { caller = me; program = program; priority = priority }) own)
+begun_by table me own (phase.Destroy who) = activity.Destroy (destroy.destroy_of (record { caller = me; who = who; count = table }) own)
+begun_by table me own phase.End = activity.Alone location.CommitEnd
+
+-- A call takes the thread's next serial. Work is no call.
+abbrev pub begun_next : ℕ → ThreadSeen → Next → ThreadSeen
+begun_next table t (next.Phase f) = record t { serial = one_more t.serial; done = 0; activity = begun_by table t.id t.own f }
+begun_next table t (next.Work count) = record t { activity = activity.Alone (location.Work count) }
+
+-- the thread with what comes next in its program, given the reply to its last call
+abbrev pub begun_after : Script → ThreadSeen → Option Reply → ThreadSeen
+begun_after script t last = begun_next script.table (record t { position = went_on t.position last }) (next_of script.version t.position last)
+
+abbrev pub begun_at : Script → ThreadSeen → Activity → ThreadSeen
+begun_at script t (activity.Alone (location.Between last)) = begun_after script t last
+begun_at script t a = t
+
+-- Between two calls the next one begins; else the thread is as it was.
+abbrev pub begun : Script → ThreadSeen → ThreadSeen
+begun script t = begun_at script t t.activity
+
+abbrev pub step_of : ThreadSeen → Step
+step_of t = step_at t.id t.own t.activity
+
+abbrev pub asked : ThreadSeen → ThreadSeen
+asked t = record t { activity = asked_activity t.activity }
+
+pub record IsSound (script : Script) (t : ThreadSeen) : Type 0 where
+  pub id : IsPartner t.id
+  pub inside : t.id.number < script.table
+  pub within : IsWithin script t.position
+  pub doing : IsSoundAt script.table t.id t.own t.activity
+
+-- a call names threads of the table, and a priority
+abbrev pub NamesIn : ℕ → Phase → Type 0
+NamesIn table (phase.Send to message zero joined) = IsInRange table to
+NamesIn table (phase.Receive from zero) = IfSome from (IsInRange table)
+NamesIn table (phase.Create program priority) = priority ≤ 63
+NamesIn table (phase.Destroy victim) = IsInRange table victim
+NamesIn table (phase.Reply to message zero) = IsInRange table to
+NamesIn table phase.End = Unit {0}

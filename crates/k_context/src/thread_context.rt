@@ -41,11 +41,13 @@ pub struct ThreadContext {
 }
 
 impl ThreadContext {
-    /// A new thread's context, at the start of its program. Its word says that it runs, and is on.
+    /// A new thread's context, at the start of its program. Its word says that it runs, and is on. The priority is 0 to 63.
     pub fn of(id: ThreadId, program: u8, priority: u8) -> ThreadContext
         requires id { IsPartner id }
         requires priority { priority < 64 }
         ensures seen { (script : scripts.Script) → IsScript script → thread_in script result ≡ thread_of script id program priority }
+        ensures placed { (script : scripts.Script) → IsScript script → IsPlaced script result }
+        ensures sound { (script : scripts.Script) → IsScript script → IsInRange script.table id → IsSound script (thread_in script result) }
     {
         ThreadContext {
             id,

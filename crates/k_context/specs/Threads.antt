@@ -1,12 +1,10 @@
 -- A thread's context: it makes the calls of its program, one section each. All of it is seen but for one thing: the place in the
 -- program is seen as the operations that are left.
-use Rattle.std.specs.Prelude.{ℕ, ◌≤◌, ◌<◌, true, false, Option, None, IfSome}
+use Rattle.std.specs.Prelude.{ℕ, ◌≤◌, ◌<◌, false, Option, None, IfSome}
 use Rattle.k_ids.specs.declared.threads.ThreadId.{ThreadId}
 use Rattle.k_ids.specs.declared.calls.Phase.{Phase}
 use Rattle.k_ids.specs.declared.calls.Phase.TheVariants as phase
 use Rattle.k_ids.specs.declared.calls.Reply.{Reply}
-use Rattle.k_ids.specs.declared.state_word.Result4.TheVariants as result4
-use Rattle.k_ids.specs.declared.state_word.State.TheVariants as state
 use Rattle.k_ids.specs.declared.state_word.StateWord.{StateWord}
 use Rattle.k_ids.specs.StateWords.{IsPartner}
 use Rattle.k_locks.specs.declared.steps.Step.{Step}
@@ -20,6 +18,7 @@ use Rattle.k_ipc.specs.SendTable as send
 use Rattle.k_ipc.specs.ReceiveTable as receive
 use Rattle.k_threads.specs.CreateTable as create
 use Rattle.k_threads.specs.DestroyTable as destroy
+use Rattle.k_threads.specs.Words.{created_word}
 use Rattle.k_context.specs.declared.thread.ThreadLocation.TheVariants as location
 use Rattle.k_context.specs.declared.activity.Activity.{Activity}
 use Rattle.k_context.specs.declared.activity.Activity.TheVariants as activity
@@ -34,15 +33,12 @@ pub record ThreadSeen : Type 0 where
   pub done : ℕ  -- the steps that were made for this call
   pub activity : Activity
 
--- a new thread: it runs, and is on
-abbrev pub new_word : ThreadId → ℕ → StateWord
-new_word id priority = record { version = id.version; priority = priority; on = true; state = state.Run result4.Plain }
-
+-- a new thread, whose word is the one that its create commits: it runs, and is on
 abbrev pub thread_of : Script → ThreadId → ℕ → ℕ → ThreadSeen
 thread_of script id program priority = record {
   id = id;
   position = start_of script program id;
-  own = new_word id priority;
+  own = created_word id.version priority;
   serial = 0;
   done = 0;
   activity = activity.Alone (location.Between None);

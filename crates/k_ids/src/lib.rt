@@ -31,6 +31,3 @@ pub use lock_word::LockWord;
 pub use memory::NoMemory;
 pub use state_word::{Result4, State, StateWord};
 pub use threads::{Found, Message, Status, ThreadId};
-
-#[cfg(test)]
-mod tests;

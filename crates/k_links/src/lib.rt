@@ -19,8 +19,6 @@
 mod links;
 mod numbered;
 mod rows;
-#[cfg(test)]
-mod tests;
 
 pub use links::Links;
 pub use numbered::Numbered;

@@ -38,6 +38,3 @@ pub use points::Point;
 pub use shown::{found_in, is_dead, is_present_in, shows, state_word, takes_from};
 pub use steps::{Answer, Step, Told, Went, one_more};
 pub use threads::{admits, is_same};
-
-#[cfg(test)]
-mod tests;

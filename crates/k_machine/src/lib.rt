@@ -24,8 +24,6 @@ mod replies;
 mod rows;
 mod seat;
 mod table;
-#[cfg(test)]
-mod tests;
 
 pub use k_ids::{NoMemory, Unlawful};
 pub use machine::Machine;

@@ -25,8 +25,6 @@ mod chain;
 mod laws;
 mod lists;
 mod mask;
-#[cfg(test)]
-mod tests;
 
 pub use laws::{one_list_is_changed, the_highest_is_the_first_of_its_list};
 pub use lists::ReadyLists;

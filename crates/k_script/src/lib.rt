@@ -54,8 +54,6 @@ mod registers;
 mod scale;
 mod script;
 mod skips;
-#[cfg(test)]
-mod tests;
 
 pub use generator::big;
 pub use laws::{

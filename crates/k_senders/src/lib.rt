@@ -23,8 +23,6 @@
 mod entries;
 mod laws;
 mod senders;
-#[cfg(test)]
-mod tests;
 
 pub use entries::{SenderEntry, who_of};
 pub use laws::an_entry_is_a_sender_and_a_message;

@@ -24,6 +24,3 @@ mod writer;
 
 pub use laws::a_written_text_is_the_shortest;
 pub use writer::text_of;
-
-#[cfg(test)]
-mod tests;

@@ -1,8 +1,8 @@
 // Worked lists, and each call beside a plain vector for each priority.
 ghost use Rattle.std.specs.Prelude.{◌<◌, ◌≡◌};
 
-use crate::ReadyLists;
 use k_ids::{NoMemory, ThreadId};
+use k_ready::ReadyLists;
 use std::alloc::AllocError;
 
 // Appends a thread whose number stands in no list. The answer is whether it did.

@@ -1,9 +1,9 @@
 // The generator's script, from a transcription of the generator in another language, and what a client of it does first.
-use crate::{
+use k_ids::{Message, Phase, Reply, ThreadId};
+use k_script::{
     AtLine, AtWhat, Next, Operation, Position, Value, Who, big, next_call, next_phase, phases,
     weight,
 };
-use k_ids::{Message, Phase, Reply, ThreadId};
 use std::test::Fail;
 
 // The server, the words and the work of each client of number 1.

@@ -1,6 +1,6 @@
-use crate::text_of;
 use k_reader::read;
 use k_script::big;
+use k_writer::text_of;
 use std::test::Fail;
 
 // Every kind of line, with whatever a text may have and need not.

@@ -1,5 +1,5 @@
 // Words and the numbers that spell them, worked out by hand from the layouts.
-use crate::{ContextWord, LockWord, Message, Result4, State, StateWord, ThreadId};
+use k_ids::{ContextWord, LockWord, Message, Result4, State, StateWord, ThreadId};
 use std::process::Abort;
 use std::test::Fail;
 

@@ -3,8 +3,8 @@ ghost use Rattle.k_ids.specs.declared.calls.Act.TheVariants as act;
 ghost use Rattle.k_ids.specs.declared.calls.Phase.TheVariants as phase;
 ghost use Rattle.std.specs.Prelude.{false, ◌≡◌};
 
-use crate::machine::Machine;
 use k_ids::{Act, Event, Found, Message, Outcome, Phase, Reply, Status, ThreadId, Unlawful};
+use k_machine::Machine;
 
 fn id(number: u8, version: u32) -> ThreadId
     ensures { result.number ≡ number }

@@ -2,9 +2,9 @@
 ghost use Rattle.k_senders.specs.Entries.{number_of};
 ghost use Rattle.std.specs.Prelude.{◌<◌, ◌≡◌};
 
-use crate::{SenderEntry, Senders, who_of};
 use k_ids::{Message, NoMemory, ThreadId};
 use k_links::Row;
+use k_senders::{SenderEntry, Senders, who_of};
 
 // The entry of a thread's first version.
 fn entry(number: u8) -> SenderEntry

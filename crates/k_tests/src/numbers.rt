@@ -1,5 +1,5 @@
 // The ranks, and worked lists of numbers.
-use crate::{Lock, Numbers, rank};
+use k_locks::{Lock, Numbers, rank};
 
 #[test]
 fn locks_are_taken_table_first_and_ready_last(rt: HostRuntime) {

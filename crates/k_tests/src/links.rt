@@ -2,8 +2,8 @@
 ghost use Rattle.k_links.specs.Listed.{entry_of, stands};
 ghost use Rattle.std.specs.Prelude.{OnOk, true, ◌<◌, ◌≡◌};
 
-use crate::{Links, Numbered, Row};
 use k_ids::{NoMemory, ThreadId};
+use k_links::{Links, Numbered, Row};
 use std::alloc::AllocError;
 
 fn id(number: u8, version: u32) -> ThreadId

@@ -18,6 +18,7 @@ SECTIONS = {
     "Pick": "crates/k_ipc/specs/ReceiveTable.antt",
     "Create": "crates/k_threads/specs/CreateTable.antt",
     "Destroy": "crates/k_threads/specs/DestroyTable.antt",
+    "Switch": "crates/k_switch/specs/Switches.antt",
 }
 
 
@@ -248,6 +249,7 @@ CONDITIONS = {
     "m is 0": lambda e: e["m"] == 0,
     "the timeout is zero": lambda e: e["zero"],
     "it is open": lambda e: e["from"] == ("None",),
+    "a thread is to be started": lambda e: e["from"] != ("None",),
 }
 
 
@@ -291,12 +293,13 @@ def spec_value(specs_of, section, location, kind, left, sizes):
         "suc": lambda a: a + 1,
         "nat_lt": lambda a, b: a < b,
         "not": lambda a: not a,
+        "is_some": lambda o: o != ("None",),
     }
     specs = Specs(SECTIONS[section], given)
     queue = {"entries": [None] * sizes["n"], "room": sizes["N"]}
     word = {"on": sizes["on"], "priority": 0}
     names = {
-        "c": {"zero": sizes["zero"], "from": sizes["from"], "count": sizes["N"], "who": {"number": sizes["victim"]}},
+        "c": {"zero": sizes["zero"], "from": sizes["from"], "count": sizes["N"], "who": {"number": sizes["victim"]}, "start": sizes["from"]},
         "h": {"queue": queue, "senders": queue},
         "there": False, "own": word,
     }

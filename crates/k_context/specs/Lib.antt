@@ -1,6 +1,1 @@
-pub mod Waits
-pub mod Switches
-pub mod Owns
-pub mod Activities
-pub mod Threads
-pub mod Seen
+pub mod Contexts

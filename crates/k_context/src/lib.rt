@@ -1,19 +1,17 @@
-//! Contexts: what a thread does, one atomic step after the other, and what a carrier does to switch from one thread to another.
+//! Contexts: what makes the steps of a thread, or of a carrier.
 //!
 //! A context is a value that stops before any atomic step and can be run on by whoever needs what it holds (Hohmuth and
-//! Härtig, *Pragmatic Nonblocking Synchronization for Real-Time Systems*). A thread's context makes the calls of its program:
-//! each is one critical section, and where the section leaves the thread waiting, the context falls asleep until it is woken. A
-//! carrier's own context makes its switches.
+//! Härtig, *Pragmatic Nonblocking Synchronization for Real-Time Systems*). A thread's context makes the calls of its program. A
+//! carrier's own context makes its switches: it gives the processor to the thread that is to go on. Whoever has a context in hand
+//! asks it for its step and tells it the answer, and needn't know which of the two it is: [`Context`] is their sum.
 #![tactic(auto)]
 
-mod activity;
+mod context;
 mod owner;
-mod switch;
-mod thread;
-mod thread_context;
 
-pub use activity::Activity;
-pub use owner::{Goal, Owner, Ran, Switched};
-pub use switch::{Switch, SwitchCall, SwitchLocation, SwitchLocked};
-pub use thread::ThreadLocation;
-pub use thread_context::ThreadContext;
+pub use context::Context;
+pub use k_caller::{Activity, Ran, ThreadContext, ThreadLocation};
+pub use k_switch::{
+    CarrierContext, Goal, Switch, SwitchCall, SwitchLocation, SwitchLocked, Switched,
+};
+pub use owner::Owner;

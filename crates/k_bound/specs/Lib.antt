@@ -1,0 +1,6 @@
+pub mod Sections
+pub mod Waits
+pub mod Chains
+pub mod Hands
+pub mod Logs
+pub mod Worked

@@ -1,0 +1,5 @@
+pub mod Owned
+pub mod Begun
+pub mod Resumed
+pub mod Onward
+pub mod Answered

@@ -1,0 +1,5 @@
+pub mod Waits
+pub mod Owns
+pub mod Activities
+pub mod Threads
+pub mod Seen

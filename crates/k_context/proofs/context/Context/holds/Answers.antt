@@ -1,0 +1,4 @@
+use Rattle.k_context.proofs.context.Context.holds.Goals as goal
+
+pub returns-in-Thread : goal.returns-in-Thread
+returns-in-Thread c = λ script. rw c.in-Thread.is (c.holds.ensures script)

@@ -1,0 +1,3 @@
+pub mod Onward
+pub mod SwitchLaws
+pub mod SwitchRuns

@@ -1,0 +1,12 @@
+pub mod Highest
+pub mod Finishing
+pub mod Popping
+pub mod Switched
+pub mod Switching
+pub mod Pairs
+pub mod Looking
+pub mod Taking
+pub mod Giving
+pub mod Rules
+pub mod Booted
+pub mod Traced

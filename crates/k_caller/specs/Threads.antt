@@ -96,8 +96,8 @@ step_of t = step_at t.id t.own t.activity
 abbrev pub asked : ThreadSeen → ThreadSeen
 asked t = record t { activity = asked_activity t.activity }
 
--- The thread after an answer. Where a lock is owned, or a context can't be removed yet, the same step comes again, and nothing has
--- changed. Else a step of a call is counted.
+-- The thread after an answer. Where a lock is owned, or a context can't be removed yet, the same step comes again, and nothing
+-- has changed. Else a step of a call is counted.
 abbrev pub moved : ThreadSeen → Answer → ThreadSeen
 moved t a = record t {
   own = own_after t.id t.own t.activity a;

@@ -59,8 +59,8 @@ impl ThreadContext {
         }
     }
 
-    /// The step that the context asks for. Between two calls the next one of its program begins, and takes its serial, which stays
-    /// at the end of its type.
+    /// The step that the context asks for. Between two calls the next one of its program begins, and takes its serial, which
+    /// stays at the end of its type.
     pub fn next(&mut self, script: &Script) -> Step
         requires placed { IsPlaced script.now self.old }
         requires sound { IsSound script.now (thread_in script.now self.old) }
@@ -80,8 +80,8 @@ impl ThreadContext {
         step
     }
 
-    /// Goes on by the answer to its step, and says what came of it. A step of a call is counted, up to the end of the count's type;
-    /// an answer for the same step again changes nothing.
+    /// Goes on by the answer to its step, and says what came of it. A step of a call is counted, up to the end of the count's
+    /// type; an answer for the same step again changes nothing.
     pub fn resume(&mut self, script: &Script, answer: Answer) -> Ran
         requires placed { IsPlaced script.now self.old }
         requires sound { IsSound script.now (thread_in script.now self.old) }
@@ -111,7 +111,7 @@ impl ThreadContext {
         ensures placed { (script : scripts.Script) → IsPlaced script self.old → IsPlaced script self.new }
         ensures sound { (script : scripts.Script) → IsSound script (thread_in script self.old) → IsSound script (thread_in script self.new) }
     {
-        if self.asleep() {
+        if self.activity.is_asleep() {
             self.activity = Activity::Alone(ThreadLocation::LookAgain);
         }
     }
@@ -162,8 +162,8 @@ impl ThreadContext {
 
 // What it is, and how far it is.
 impl ThreadContext {
-    /// The event that its step appends to the history where it has this answer, if any. `caller` is the thread's state word at this
-    /// very step.
+    /// The event that its step appends to the history where it has this answer, if any. `caller` is the thread's state word at
+    /// this very step.
     pub fn point(&self, caller: &StateWord, answer: &Answer) -> Option<Point>
         requires sound { IsSoundAt self.now.id self.now.own self.now.activity }
         requires fit { IsFitAt self.now.id self.now.own self.now.activity answer.now }

@@ -1,0 +1,13 @@
+pub mod Rely
+pub mod Stays
+pub mod Cases
+pub mod Scan
+pub mod SendPlaces
+pub mod ReceivePlaces
+pub mod CreatePlaces
+pub mod DestroyPlaces
+pub mod AlonePlaces
+pub mod Keep
+pub mod Goes
+pub mod Turning
+pub mod Booting

@@ -1,0 +1,12 @@
+pub mod Starts
+pub mod Seen
+pub mod Moves
+pub mod Answers
+pub mod Rules
+pub mod Asked
+pub mod Resumed
+pub mod Told
+pub mod Flags
+pub mod Conditions
+pub mod Running
+pub mod Laws

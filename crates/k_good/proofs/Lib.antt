@@ -1,0 +1,9 @@
+pub mod Owners
+pub mod LockTurns
+pub mod Numbers
+pub mod NumberTurns
+pub mod NumberDestroys
+pub mod NumbersKeep
+pub mod Starts
+pub mod Outward
+pub mod Goods

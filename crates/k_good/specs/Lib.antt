@@ -1,0 +1,4 @@
+pub mod Locks
+pub mod Numbers
+pub mod Outward
+pub mod Good

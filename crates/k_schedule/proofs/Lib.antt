@@ -1,0 +1,9 @@
+pub mod Events
+pub mod Bursts
+pub mod Tails
+pub mod Runs
+pub mod Reached
+pub mod Passed
+pub mod Parts
+pub mod Near
+pub mod Worked

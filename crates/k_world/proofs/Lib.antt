@@ -1,0 +1,9 @@
+pub mod Lists
+pub mod Waits
+pub mod Steps
+pub mod Worlds
+pub mod Orders
+pub mod Booted
+pub mod Starts
+pub mod Later
+pub mod Examples

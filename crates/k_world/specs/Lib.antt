@@ -1,0 +1,10 @@
+pub mod Worlds
+pub mod Moves
+pub mod Marks
+pub mod Steps
+pub mod Boot
+pub mod Lawful
+pub mod Frames
+pub mod Owed
+pub mod Runs
+pub mod Examples

@@ -18,7 +18,12 @@ pub record IsThreadAt (g : Programs) (b : Board) (n program priority : ℕ) : Ty
   pub last : (b.seen n).last ≡ 0
   pub told : (b.seen n).told ≡ None
   pub position : (b.seen n).position ≡ g.start (first_of n) program
-  pub context : b.context n ≡ record { serial = 0; own = created_word 1 priority; position = g.start (first_of n) program; at = Alone (location.Between None) }
+  pub context : b.context n ≡ record {
+    serial = 0;
+    own = created_word 1 priority;
+    position = g.start (first_of n) program;
+    at = Alone (location.Between None);
+  }
 
 pub data Booted (g : Programs) (b : Board) (n : ℕ) : Type 0 where
   has_thread : (program priority : ℕ) → IsThreadAt g b n program priority → Booted g b n

@@ -39,7 +39,8 @@ pub data Fact : Type 0 where
   Free : Fact  -- it is `own`, a run with `on`, unless the caller was destroyed
   Kept : Fact  -- it is `own`, a run with `on`, and the caller can't be destroyed
   Settling : State → Fact  -- it is `own`, of this state, with `on`; the caller holds its own lock
-  Queued : ThreadId → Fact  -- the caller sends to this thread, whose lock it holds, unless it was destroyed; it has no entry there
+  Queued : ThreadId →
+      Fact  -- the caller sends to this thread, whose lock it holds, unless it was destroyed; it has no entry there
   Waits : Fact  -- the caller waits, or has been freed, or was destroyed
   Picks : Fact  -- the caller picks, or a message was delivered to it, or it was destroyed
   OwnWaits : Fact  -- `own` is the word of one that waits
@@ -66,7 +67,8 @@ pub data Fact : Type 0 where
   Mailed : SendCall → Fact  -- the receiver's mail is the message
   Passing : SendCall → Fact  -- the receiver has got the message by its ledger, and not yet by its word
   Busy : SendCall → Fact  -- the receiver is there, takes no message, and the caller may wait
-  Loaded : ℕ → StateWord → Fact  -- the number's word is the loaded one, of a thread that takes messages, or the same with `on` off
+  Loaded : ℕ → StateWord →
+      Fact  -- the number's word is the loaded one, of a thread that takes messages, or the same with `on` off
   Fitting : SendCall → StateWord → Fact  -- the loaded word is one that takes the message
   -- A RECEIVE, AND A PICK
   Plainly : ReceiveCall → Fact  -- it is no pick, and not from its caller
@@ -141,7 +143,10 @@ pub record IsDelivered (v : Seen) : Type 0 where
 
 -- It was destroyed, or waits, or its message was taken, or the one that it waited for is gone, or a message was delivered.
 abbrev pub WaitsBy : Seen → Type 0
-WaitsBy v = (is_dead v.word ≡ true) ⊎ ((may_wait v.word.state ≡ true) ⊎ (((v.word.state ≡ state.Run result4.Sent) × (v.word.on ≡ true) × (v.told ≡ Some reply.Sent)) ⊎ (((v.word.state ≡ state.Run result4.Gone) × (v.word.on ≡ true) × (v.told ≡ Some reply.Gone)) ⊎ IsDelivered v)))
+WaitsBy v = (is_dead v.word ≡ true) ⊎
+    ((may_wait v.word.state ≡ true) ⊎
+    (((v.word.state ≡ state.Run result4.Sent) × (v.word.on ≡ true) × (v.told ≡ Some reply.Sent)) ⊎
+    (((v.word.state ≡ state.Run result4.Gone) × (v.word.on ≡ true) × (v.told ≡ Some reply.Gone)) ⊎ IsDelivered v)))
 
 abbrev pub PicksBy : StateWord → Seen → Type 0
 PicksBy own v = IsOr v.word own ⊎ IsDelivered v
@@ -164,7 +169,8 @@ AllWait to s (e ∷ es) = (waits_for to e (s (number_of e)).word ≡ true) × Al
 -- each entry whose sender is admitted is of one that waits no more
 abbrev pub NoneWaits : ReceiveCall → (ℕ → Seen) → List SenderEntry → Type 0
 NoneWaits c s [] = Unit {0}
-NoneWaits c s (e ∷ es) = (admits c.from (sender_of e) ≡ true → still_waits c e (s (number_of e)).word ≡ false) × NoneWaits c s es
+NoneWaits c s (e ∷ es) = (admits c.from (sender_of e) ≡ true → still_waits c e (s (number_of e)).word ≡ false) ×
+    NoneWaits c s es
 
 -- the first entry of a queue, of this number, and its sender's word as it was loaded
 pub record IsFront (to : ThreadId) (entries : List SenderEntry) (sender : ℕ) (w : StateWord) : Type 0 where
@@ -180,8 +186,11 @@ abbrev pub Says : Programs → Board → ℕ → Context → Fact → Type 0
 Says g b i x (Me id) = (id.number ≡ i) × (id.version ≡ (b.seen i).word.version)
 Says g b i x Free = IsRun x.own × IsOr (b.seen i).word x.own
 Says g b i x Kept = IsRun x.own × ((b.seen i).word ≡ x.own) × ((b.owner i ≡ Some i) ⊎ (b.table ≡ Some i))
-Says g b i x (Settling s) = (b.owner i ≡ Some i) × ((b.seen i).word ≡ x.own) × (x.own.state ≡ s) × (x.own.on ≡ true) × (is_open s ≡ true)
-Says g b i x (Queued to) = (b.owner to.number ≡ Some i) × (is_waiting x.own.state ≡ true) × (x.own.on ≡ true) × IsOr (b.seen i).word x.own × ((joined : Bool) × (x.own.state ≡ state.Sending to joined)) × (stands i (b.queue to.number) ≡ false)
+Says g b i x (Settling s) = (b.owner i ≡ Some i) × ((b.seen i).word ≡ x.own) × (x.own.state ≡ s) × (x.own.on ≡ true) ×
+    (is_open s ≡ true)
+Says g b i x (Queued to) = (b.owner to.number ≡ Some i) × (is_waiting x.own.state ≡ true) × (x.own.on ≡ true) ×
+    IsOr (b.seen i).word x.own × ((joined : Bool) × (x.own.state ≡ state.Sending to joined)) ×
+    (stands i (b.queue to.number) ≡ false)
 Says g b i x Waits = WaitsBy (b.seen i)
 Says g b i x Picks = (x.own.state ≡ state.Picking) × (x.own.on ≡ true) × PicksBy x.own (b.seen i)
 Says g b i x OwnWaits = is_waiting x.own.state ≡ true
@@ -189,12 +198,16 @@ Says g b i x Rested = (x.own.state ≡ state.Ended) × IsOr (b.seen i).word x.ow
 Says g b i x Died = is_dead (b.seen i).word ≡ true
 Says g b i x Fresh = x.serial ≡ (b.seen i).last + 1
 Says g b i x Called = x.serial ≡ (b.seen i).last
-Says g b i x (Begun p) = (is_waiting (b.seen i).word.state ≡ false) × Begins g (b.seen i).position (b.seen i).told p x.position
+Says g b i x (Begun p) = (is_waiting (b.seen i).word.state ≡ false) ×
+    Begins g (b.seen i).position (b.seen i).told p x.position
 Says g b i x Settled = x.position ≡ (b.seen i).position
 Says g b i x (Told r) = (b.seen i).told ≡ Some r
-Says g b i x (Remembers r) = (is_waiting (b.seen i).word.state ≡ false) × Walks g (b.seen i).position (b.seen i).told x.position r
-Says g b i x (Refused r) = (is_dead (b.seen i).word ≡ true) ⊎ ((x.serial ≡ (b.seen i).last) × (x.position ≡ (b.seen i).position) × ((b.seen i).told ≡ Some r))
-Says g b i x (Collects from) = (is_waiting (b.seen i).word.state ≡ false) × ((b.seen i).told ≡ Some (reply.Got from (b.seen i).mail))
+Says g b i x (Remembers r) = (is_waiting (b.seen i).word.state ≡ false) ×
+    Walks g (b.seen i).position (b.seen i).told x.position r
+Says g b i x (Refused r) = (is_dead (b.seen i).word ≡ true) ⊎
+    ((x.serial ≡ (b.seen i).last) × (x.position ≡ (b.seen i).position) × ((b.seen i).told ≡ Some r))
+Says g b i x (Collects from) = (is_waiting (b.seen i).word.state ≡ false) ×
+    ((b.seen i).told ≡ Some (reply.Got from (b.seen i).mail))
 Says g b i x (HoldsThread t) = b.owner t ≡ Some i
 Says g b i x HoldsTable = b.table ≡ Some i
 Says g b i x HoldsReady = b.ready ≡ Some i
@@ -203,8 +216,12 @@ Says g b i x (Differs id) = same_id id (record { number = i; version = (b.seen i
 Says g b i x (Apart t) = t ≢ i
 Says g b i x (Accepting c) = (b.owner c.to.number ≡ Some i) × Fits c (b.seen c.to.number).word
 Says g b i x (Mailed c) = (b.owner c.to.number ≡ Some i) × ((b.seen c.to.number).mail ≡ c.message)
-Says g b i x (Passing c) = (b.owner c.to.number ≡ Some i) × (is_open (b.seen c.to.number).word.state ≡ true) × ((b.seen c.to.number).mail ≡ c.message) × ((b.seen c.to.number).told ≡ Some (reply.Got c.caller c.message)) × (is_present_in (b.seen c.to.number).word c.to ≡ true)
-Says g b i x (Busy c) = (b.owner c.to.number ≡ Some i) × (is_present_in (b.seen c.to.number).word c.to ≡ true) × (takes_from (shows (b.seen c.to.number).word.state) c.caller c.zero ≡ false) × (c.zero ≡ false) × (c.caller.number ≡ i) × (is_waiting (b.seen i).word.state ≡ false)
+Says g b i x (Passing c) = (b.owner c.to.number ≡ Some i) × (is_open (b.seen c.to.number).word.state ≡ true) ×
+    ((b.seen c.to.number).mail ≡ c.message) × ((b.seen c.to.number).told ≡ Some (reply.Got c.caller c.message)) ×
+    (is_present_in (b.seen c.to.number).word c.to ≡ true)
+Says g b i x (Busy c) = (b.owner c.to.number ≡ Some i) × (is_present_in (b.seen c.to.number).word c.to ≡ true) ×
+    (takes_from (shows (b.seen c.to.number).word.state) c.caller c.zero ≡ false) × (c.zero ≡ false) × (c.caller.number ≡ i) ×
+    (is_waiting (b.seen i).word.state ≡ false)
 Says g b i x (Loaded t w) = (b.owner t ≡ Some i) × (is_open w.state ≡ true) × IsLoaded (b.seen t).word w
 Says g b i x (Fitting c w) = Fits c w
 Says g b i x (Plainly c) = (c.picks ≡ false) × (is_own c.from c.caller ≡ false)
@@ -212,26 +229,32 @@ Says g b i x (Itself c) = (c.picks ≡ false) × (is_own c.from c.caller ≡ tru
 Says g b i x (NotZero c) = c.zero ≡ false
 Says g b i x (Picking c) = c ≡ record { caller = c.caller; from = None; zero = false; picks = true }
 Says g b i x (Closed c from) = c.from ≡ Some from
-Says g b i x (Reaches c e) = (c.caller.number ≡ i) × (b.owner i ≡ Some i) × (entry_of (number_of e) (b.queue i) ≡ Some e) × (admits c.from (sender_of e) ≡ true) × NoneWaits c b.seen (before (number_of e) (b.queue i))
+Says g b i x (Reaches c e) = (c.caller.number ≡ i) × (b.owner i ≡ Some i) × (entry_of (number_of e) (b.queue i) ≡ Some e) ×
+    (admits c.from (sender_of e) ≡ true) × NoneWaits c b.seen (before (number_of e) (b.queue i))
 Says g b i x (Exhausts c) = (c.caller.number ≡ i) × (b.owner i ≡ Some i) × NoneWaits c b.seen (b.queue i)
 Says g b i x (Sends c e w) = still_waits c e w ≡ true
-Says g b i x (Taken c e) = (c.caller.number ≡ i) × (b.owner i ≡ Some i) × (entry_of (number_of e) (b.queue i) ≡ Some e) × (still_waits c e (b.seen (number_of e)).word ≡ false)
-Says g b i x (Chosen id) = (b.table ≡ Some i) × (lowest_free b.numbers ≡ Some id.number) × (id.version ≡ version_at b.numbers id.number + 1)
+Says g b i x (Taken c e) = (c.caller.number ≡ i) × (b.owner i ≡ Some i) × (entry_of (number_of e) (b.queue i) ≡ Some e) ×
+    (still_waits c e (b.seen (number_of e)).word ≡ false)
+Says g b i x (Chosen id) = (b.table ≡ Some i) × (lowest_free b.numbers ≡ Some id.number) ×
+    (id.version ≡ version_at b.numbers id.number + 1)
 Says g b i x (Unmade id) = (b.table ≡ Some i) × ((b.seen id.number).word ≡ dead_word (id.version - 1))
 Says g b i x (Vacant id) = (b.table ≡ Some i) × ((b.context id.number).at ≡ Nowhere)
 Says g b i x (Arriving c id) = (b.table ≡ Some i) × (b.context id.number ≡ new_context g c id Coming)
 Says g b i x (Present id) = (b.table ≡ Some i) × (is_present_in (b.seen id.number).word id ≡ true)
 Says g b i x (DestroysItself c) = same_id c.who c.caller ≡ true
 Says g b i x (Shows id w) = is_present_in w id ≡ true
-Says g b i x (Gone id) = (b.table ≡ Some i) × (is_dead (b.seen id.number).word ≡ true) × ((b.seen id.number).word.version ≡ id.version)
+Says g b i x (Gone id) = (b.table ≡ Some i) × (is_dead (b.seen id.number).word ≡ true) ×
+    ((b.seen id.number).word.version ≡ id.version)
 Says g b i x (Row to) = (b.table ≡ Some i) × (b.owner to.number ≡ Some i) × AllWait to b.seen (b.queue to.number)
 Says g b i x (Rest to) = (b.table ≡ Some i) × (b.owner to.number ≡ Some i) × AllWait to b.seen (rest (b.queue to.number))
 Says g b i x (Emptied to) = (b.owner to.number ≡ Some i) × (b.queue to.number ≡ [])
 Says g b i x (Front to sender) = (b.owner to.number ≡ Some i) × (first_number (b.queue to.number) ≡ Some sender)
 Says g b i x (Waiting to sender w) = (b.owner to.number ≡ Some i) × IsFront to (b.queue to.number) sender w
 Says g b i x (Visited c t) = (t ≢ c.who.number) × (t < c.count)
-Says g b i x (Receives id t w) = (b.table ≡ Some i) × (is_receiving_from id w.state ≡ true) × (w.version ≡ (b.seen t).word.version)
-Says g b i x (Deaf id t) = (b.table ≡ Some i) × (b.owner t ≡ Some i) × (is_dead (b.seen id.number).word ≡ true) × (is_receiving_from id (b.seen t).word.state ≡ false)
+Says g b i x (Receives id t w) =
+    (b.table ≡ Some i) × (is_receiving_from id w.state ≡ true) × (w.version ≡ (b.seen t).word.version)
+Says g b i x (Deaf id t) = (b.table ≡ Some i) × (b.owner t ≡ Some i) × (is_dead (b.seen id.number).word ≡ true) ×
+    (is_receiving_from id (b.seen t).word.state ≡ false)
 Says g b i x Never = ⊥
 
 abbrev pub AllSay : Programs → Board → ℕ → Context → List Fact → Type 0

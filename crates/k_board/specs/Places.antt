@@ -81,8 +81,10 @@ abbrev pub facts_send : SendCall → SendAt → List Fact
 facts_send c (Outside LoadCaller) = SendsItself c ∷ undecided c.caller (send_phase c) []
 facts_send c (Outside AcquireReceiver) = Differs c.to ∷ undecided c.caller (send_phase c) []
 facts_send c (Locked LoadReceiver) = Differs c.to ∷ HoldsThread c.to.number ∷ undecided c.caller (send_phase c) []
-facts_send c (Locked (StoreMail w)) = Apart c.to.number ∷ Accepting c ∷ undecided c.caller (send_phase c) (Loaded c.to.number w ∷ Fitting c w ∷ [])
-facts_send c (Locked (CommitPass w)) = Apart c.to.number ∷ Accepting c ∷ Mailed c ∷ undecided c.caller (send_phase c) (Loaded c.to.number w ∷ Fitting c w ∷ [])
+facts_send c (Locked (StoreMail w)) =
+    Apart c.to.number ∷ Accepting c ∷ undecided c.caller (send_phase c) (Loaded c.to.number w ∷ Fitting c w ∷ [])
+facts_send c (Locked (CommitPass w)) =
+    Apart c.to.number ∷ Accepting c ∷ Mailed c ∷ undecided c.caller (send_phase c) (Loaded c.to.number w ∷ Fitting c w ∷ [])
 facts_send c (Locked (WakeReceiver w)) = sender c.manner c.caller (Apart c.to.number ∷ Passing c ∷ Loaded c.to.number w ∷ [])
 facts_send c (Locked ReloadReceiver) = sender c.manner c.caller (Apart c.to.number ∷ Passing c ∷ [])
 facts_send c (Locked (AcquireReady priority)) = sender c.manner c.caller (HoldsThread c.to.number ∷ [])
@@ -110,26 +112,42 @@ begins false c = Plainly c ∷ undecided c.caller (receive_phase c) []
 abbrev pub facts_receive : ReceiveCall → ReceiveAt → List Fact
 facts_receive c (receive.Outside outside.LoadCaller) = Itself c ∷ undecided c.caller (receive_phase c) []
 facts_receive c (receive.Outside outside.AcquireOwn) = begins c.picks c
-facts_receive c (receive.Locked locked.LoadOwn) = Plainly c ∷ HoldsThread c.caller.number ∷ undecided c.caller (receive_phase c) []
-facts_receive c (receive.Locked (locked.LoadSender e)) = Plainly c ∷ HoldsThread c.caller.number ∷ shielded c.caller (receive_phase c) (Reaches c e ∷ [])
-facts_receive c (receive.Locked (locked.FreeSender e w)) = Plainly c ∷ HoldsThread c.caller.number ∷ Sends c e w ∷ shielded c.caller (receive_phase c) (Reaches c e ∷ [])
-facts_receive c (receive.Locked (locked.AcquireReady e)) = HoldsThread c.caller.number ∷ with_reply c.caller (got e) (Taken c e ∷ [])
-facts_receive c (receive.Pushing (pushing.LoadFreed e)) = HoldsThread c.caller.number ∷ with_reply c.caller (got e) (Taken c e ∷ HoldsReady ∷ [])
-facts_receive c (receive.Pushing (pushing.PushFreed e w)) = HoldsThread c.caller.number ∷ with_reply c.caller (got e) (Taken c e ∷ HoldsReady ∷ [])
-facts_receive c (receive.Locked (locked.Release (returns.Taken e))) = HoldsThread c.caller.number ∷ with_reply c.caller (got e) (Taken c e ∷ [])
-facts_receive c (receive.Locked locked.CommitWait) = Plainly c ∷ HoldsThread c.caller.number ∷ shielded c.caller (receive_phase c) (NotZero c ∷ Exhausts c ∷ [])
-facts_receive c (receive.Locked (locked.LoadPartner from)) = Closed c from ∷ settling c.caller (state.Receiving c.from) (Plainly c ∷ [])
-facts_receive c (receive.Locked (locked.CommitGone from)) = settling c.caller (state.Receiving c.from) (Told reply.Gone ∷ Plainly c ∷ [])
+facts_receive c (receive.Locked locked.LoadOwn) =
+    Plainly c ∷ HoldsThread c.caller.number ∷ undecided c.caller (receive_phase c) []
+facts_receive c (receive.Locked (locked.LoadSender e)) =
+    Plainly c ∷ HoldsThread c.caller.number ∷ shielded c.caller (receive_phase c) (Reaches c e ∷ [])
+facts_receive c (receive.Locked (locked.FreeSender e w)) =
+    Plainly c ∷ HoldsThread c.caller.number ∷ Sends c e w ∷ shielded c.caller (receive_phase c) (Reaches c e ∷ [])
+facts_receive c (receive.Locked (locked.AcquireReady e)) =
+    HoldsThread c.caller.number ∷ with_reply c.caller (got e) (Taken c e ∷ [])
+facts_receive c (receive.Pushing (pushing.LoadFreed e)) =
+    HoldsThread c.caller.number ∷ with_reply c.caller (got e) (Taken c e ∷ HoldsReady ∷ [])
+facts_receive c (receive.Pushing (pushing.PushFreed e w)) =
+    HoldsThread c.caller.number ∷ with_reply c.caller (got e) (Taken c e ∷ HoldsReady ∷ [])
+facts_receive c (receive.Locked (locked.Release (returns.Taken e))) =
+    HoldsThread c.caller.number ∷ with_reply c.caller (got e) (Taken c e ∷ [])
+facts_receive c (receive.Locked locked.CommitWait) =
+    Plainly c ∷ HoldsThread c.caller.number ∷ shielded c.caller (receive_phase c) (NotZero c ∷ Exhausts c ∷ [])
+facts_receive c (receive.Locked (locked.LoadPartner from)) =
+    Closed c from ∷ settling c.caller (state.Receiving c.from) (Plainly c ∷ [])
+facts_receive c (receive.Locked (locked.CommitGone from)) =
+    settling c.caller (state.Receiving c.from) (Told reply.Gone ∷ Plainly c ∷ [])
 facts_receive c (receive.Locked (locked.Release returns.Waits)) = settling c.caller (state.Receiving c.from) []
-facts_receive c (receive.Locked (locked.Release returns.Gone)) = HoldsThread c.caller.number ∷ with_reply c.caller reply.Gone []
-facts_receive c (receive.Locked (locked.Release returns.Nobody)) = HoldsThread c.caller.number ∷ with_reply c.caller reply.Nobody []
+facts_receive c (receive.Locked (locked.Release returns.Gone)) =
+    HoldsThread c.caller.number ∷ with_reply c.caller reply.Gone []
+facts_receive c (receive.Locked (locked.Release returns.Nobody)) =
+    HoldsThread c.caller.number ∷ with_reply c.caller reply.Nobody []
 facts_receive c (receive.Locked (locked.Release returns.Dead)) = HoldsThread c.caller.number ∷ Died ∷ Me c.caller ∷ []
-facts_receive c (receive.Locked locked.LoadPicking) = Picking c ∷ HoldsThread c.caller.number ∷ Me c.caller ∷ Called ∷ Settled ∷ Picks ∷ []
+facts_receive c (receive.Locked locked.LoadPicking) =
+    Picking c ∷ HoldsThread c.caller.number ∷ Me c.caller ∷ Called ∷ Settled ∷ Picks ∷ []
 facts_receive c (receive.Locked (locked.LoadNext e)) = Picking c ∷ settling c.caller state.Picking (Reaches c e ∷ [])
-facts_receive c (receive.Locked (locked.FreeNext e w)) = Picking c ∷ settling c.caller state.Picking (Sends c e w ∷ Reaches c e ∷ [])
-facts_receive c (receive.Locked (locked.EndPick e w)) = Picking c ∷ settling c.caller state.Picking (Told (got e) ∷ Taken c e ∷ Apart (number_of e) ∷ [])
+facts_receive c (receive.Locked (locked.FreeNext e w)) =
+    Picking c ∷ settling c.caller state.Picking (Sends c e w ∷ Reaches c e ∷ [])
+facts_receive c (receive.Locked (locked.EndPick e w)) =
+    Picking c ∷ settling c.caller state.Picking (Told (got e) ∷ Taken c e ∷ Apart (number_of e) ∷ [])
 facts_receive c (receive.Locked locked.SettlePick) = Picking c ∷ settling c.caller state.Picking (Exhausts c ∷ [])
-facts_receive c (receive.Locked (locked.Release returns.Delivered)) = HoldsThread c.caller.number ∷ Me c.caller ∷ Called ∷ Settled ∷ Waits ∷ OwnWaits ∷ []
+facts_receive c (receive.Locked (locked.Release returns.Delivered)) =
+    HoldsThread c.caller.number ∷ Me c.caller ∷ Called ∷ Settled ∷ Waits ∷ OwnWaits ∷ []
 facts_receive c (receive.Outside (outside.Ended w)) = Never ∷ []
 
 -- A CREATE
@@ -140,12 +158,18 @@ create_phase c = phase.Create c.program c.priority
 abbrev pub facts_create : CreateCall → CreateAt → List Fact
 facts_create c (create.Outside create_outside.AcquireTable) = undecided c.caller (create_phase c) []
 facts_create c (create.Locked create_locked.LoadCaller) = HoldsTable ∷ undecided c.caller (create_phase c) []
-facts_create c (create.Locked (create_locked.PlaceContext id)) = HoldsTable ∷ shielded c.caller (create_phase c) (Chosen id ∷ Unmade id ∷ Vacant id ∷ [])
-facts_create c (create.Locked (create_locked.CommitCreate id)) = HoldsTable ∷ shielded c.caller (create_phase c) (Chosen id ∷ Unmade id ∷ Arriving c id ∷ [])
-facts_create c (create.Locked (create_locked.AcquireReady id)) = HoldsTable ∷ with_reply c.caller (reply.Made id) (Present id ∷ Chosen id ∷ [])
-facts_create c (create.PushCreated id) = HoldsTable ∷ with_reply c.caller (reply.Made id) (Present id ∷ Chosen id ∷ HoldsReady ∷ [])
-facts_create c (create.Locked (create_locked.Release (create_release.Made id))) = HoldsTable ∷ with_reply c.caller (reply.Made id) (Present id ∷ Chosen id ∷ [])
-facts_create c (create.Locked (create_locked.Release (create_release.Full alive worn))) = HoldsTable ∷ with_reply c.caller (reply.Full alive worn) []
+facts_create c (create.Locked (create_locked.PlaceContext id)) =
+    HoldsTable ∷ shielded c.caller (create_phase c) (Chosen id ∷ Unmade id ∷ Vacant id ∷ [])
+facts_create c (create.Locked (create_locked.CommitCreate id)) =
+    HoldsTable ∷ shielded c.caller (create_phase c) (Chosen id ∷ Unmade id ∷ Arriving c id ∷ [])
+facts_create c (create.Locked (create_locked.AcquireReady id)) =
+    HoldsTable ∷ with_reply c.caller (reply.Made id) (Present id ∷ Chosen id ∷ [])
+facts_create c (create.PushCreated id) =
+    HoldsTable ∷ with_reply c.caller (reply.Made id) (Present id ∷ Chosen id ∷ HoldsReady ∷ [])
+facts_create c (create.Locked (create_locked.Release (create_release.Made id))) =
+    HoldsTable ∷ with_reply c.caller (reply.Made id) (Present id ∷ Chosen id ∷ [])
+facts_create c (create.Locked (create_locked.Release (create_release.Full alive worn))) =
+    HoldsTable ∷ with_reply c.caller (reply.Full alive worn) []
 facts_create c (create.Locked (create_locked.Release create_release.Dead)) = HoldsTable ∷ Died ∷ Me c.caller ∷ []
 facts_create c (create.Outside (create_outside.Ended w)) = Never ∷ []
 
@@ -165,27 +189,39 @@ visiting c visited fs = killed c (Vacant c.who ∷ Visited c visited ∷ HoldsTh
 abbrev pub facts_destroy : DestroyCall → DestroyAt → List Fact
 facts_destroy c (destroy.Outside destroy_outside.LoadOwn) = DestroysItself c ∷ undecided c.caller (destroy_phase c) []
 facts_destroy c (destroy.Outside destroy_outside.AcquireTable) = Differs c.who ∷ undecided c.caller (destroy_phase c) []
-facts_destroy c (destroy.Locked destroy_locked.LoadCaller) = Differs c.who ∷ HoldsTable ∷ undecided c.caller (destroy_phase c) []
-facts_destroy c (destroy.Locked destroy_locked.AcquireVictimLock) = Differs c.who ∷ HoldsTable ∷ shielded c.caller (destroy_phase c) []
-facts_destroy c (destroy.Victim victim.LoadVictim) = Differs c.who ∷ HoldsTable ∷ HoldsThread c.who.number ∷ shielded c.caller (destroy_phase c) []
-facts_destroy c (destroy.Victim (victim.CommitKill seen)) = Differs c.who ∷ HoldsTable ∷ HoldsThread c.who.number ∷ shielded c.caller (destroy_phase c) (Shows c.who seen ∷ [])
-facts_destroy c (destroy.Victim (victim.LoadSender sender)) = killed c (HoldsThread c.who.number ∷ Row c.who ∷ Front c.who sender ∷ [])
-facts_destroy c (destroy.Victim (victim.FreeSender sender seen)) = killed c (HoldsThread c.who.number ∷ Row c.who ∷ Front c.who sender ∷ Waiting c.who sender seen ∷ [])
-facts_destroy c (destroy.Victim (victim.AcquireReadyForSender sender seen)) = killed c (HoldsThread c.who.number ∷ Rest c.who ∷ Front c.who sender ∷ [])
-facts_destroy c (destroy.Pushing (destroy_pushing.PushSender sender seen)) = killed c (HoldsThread c.who.number ∷ Rest c.who ∷ Front c.who sender ∷ HoldsReady ∷ [])
+facts_destroy c (destroy.Locked destroy_locked.LoadCaller) =
+    Differs c.who ∷ HoldsTable ∷ undecided c.caller (destroy_phase c) []
+facts_destroy c (destroy.Locked destroy_locked.AcquireVictimLock) =
+    Differs c.who ∷ HoldsTable ∷ shielded c.caller (destroy_phase c) []
+facts_destroy c (destroy.Victim victim.LoadVictim) =
+    Differs c.who ∷ HoldsTable ∷ HoldsThread c.who.number ∷ shielded c.caller (destroy_phase c) []
+facts_destroy c (destroy.Victim (victim.CommitKill seen)) =
+    Differs c.who ∷ HoldsTable ∷ HoldsThread c.who.number ∷ shielded c.caller (destroy_phase c) (Shows c.who seen ∷ [])
+facts_destroy c (destroy.Victim (victim.LoadSender sender)) =
+    killed c (HoldsThread c.who.number ∷ Row c.who ∷ Front c.who sender ∷ [])
+facts_destroy c (destroy.Victim (victim.FreeSender sender seen)) =
+    killed c (HoldsThread c.who.number ∷ Row c.who ∷ Front c.who sender ∷ Waiting c.who sender seen ∷ [])
+facts_destroy c (destroy.Victim (victim.AcquireReadyForSender sender seen)) =
+    killed c (HoldsThread c.who.number ∷ Rest c.who ∷ Front c.who sender ∷ [])
+facts_destroy c (destroy.Pushing (destroy_pushing.PushSender sender seen)) =
+    killed c (HoldsThread c.who.number ∷ Rest c.who ∷ Front c.who sender ∷ HoldsReady ∷ [])
 facts_destroy c (destroy.Victim victim.ReleaseVictimLock) = killed c (HoldsThread c.who.number ∷ Emptied c.who ∷ [])
 facts_destroy c (destroy.Locked destroy_locked.AcquireReadyForVictim) = killed c []
 facts_destroy c destroy.UnlistVictim = killed c (HoldsReady ∷ [])
 facts_destroy c (destroy.Locked destroy_locked.RemoveContext) = killed c []
-facts_destroy c (destroy.Locked (destroy_locked.AcquireVisitedLock visited)) = killed c (Vacant c.who ∷ Visited c visited ∷ [])
+facts_destroy c (destroy.Locked (destroy_locked.AcquireVisitedLock visited)) =
+    killed c (Vacant c.who ∷ Visited c visited ∷ [])
 facts_destroy c (destroy.Visit (visit.LoadVisited visited)) = visiting c visited []
 facts_destroy c (destroy.Visit (visit.FreeVisited visited seen)) = visiting c visited (Receives c.who visited seen ∷ [])
 facts_destroy c (destroy.Visit (visit.AcquireReadyForVisited visited seen)) = visiting c visited (Deaf c.who visited ∷ [])
-facts_destroy c (destroy.Pushing (destroy_pushing.PushVisited visited seen)) = visiting c visited (Deaf c.who visited ∷ HoldsReady ∷ [])
+facts_destroy c (destroy.Pushing (destroy_pushing.PushVisited visited seen)) =
+    visiting c visited (Deaf c.who visited ∷ HoldsReady ∷ [])
 facts_destroy c (destroy.Visit (visit.ReleaseVisitedLock visited)) = visiting c visited (Deaf c.who visited ∷ [])
 facts_destroy c (destroy.Locked (destroy_locked.Release destroy_release.Killed)) = killed c (Vacant c.who ∷ [])
-facts_destroy c (destroy.Victim (victim.ReleaseVictimLockAbsent found)) = HoldsTable ∷ HoldsThread c.who.number ∷ with_reply c.caller (reply.Absent found) []
-facts_destroy c (destroy.Locked (destroy_locked.Release (destroy_release.Absent found))) = HoldsTable ∷ with_reply c.caller (reply.Absent found) []
+facts_destroy c (destroy.Victim (victim.ReleaseVictimLockAbsent found)) =
+    HoldsTable ∷ HoldsThread c.who.number ∷ with_reply c.caller (reply.Absent found) []
+facts_destroy c (destroy.Locked (destroy_locked.Release (destroy_release.Absent found))) =
+    HoldsTable ∷ with_reply c.caller (reply.Absent found) []
 facts_destroy c (destroy.Locked (destroy_locked.Release destroy_release.Dead)) = HoldsTable ∷ Died ∷ Me c.caller ∷ []
 facts_destroy c (destroy.Outside (destroy_outside.Ended w)) = Never ∷ []
 

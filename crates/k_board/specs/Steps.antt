@@ -126,7 +126,8 @@ send_context x c p r h = record x { own = send.own_of c x.own p r; at = send_at 
 
 -- a sender that waits comes to the end of the receiver's queue
 abbrev pub send_queues : SendCall → SendAt → Response → (ℕ → List SenderEntry) → ℕ → List SenderEntry
-send_queues c (Locked (Release release.Queued)) asks.Released q = upd q c.to.number (q c.to.number ++ entry_for c.caller c.message ∷ [])
+send_queues c (Locked (Release release.Queued)) asks.Released q =
+    upd q c.to.number (q c.to.number ++ entry_for c.caller c.message ∷ [])
 send_queues c p r q = q
 
 abbrev pub send_board : Programs → Board → ℕ → Context → SendCall → SendAt → Response → Board
@@ -151,7 +152,8 @@ receive_context x c p r h = record x { own = receive.own_of c x.own p r; at = re
 
 -- the entry whose message was taken leaves the caller's queue
 abbrev pub receive_queues : ReceiveCall → ReceiveAt → Response → (ℕ → List SenderEntry) → ℕ → List SenderEntry
-receive_queues c (receive.Locked (locked.Release (returns.Taken e))) asks.Released q = upd q c.caller.number (without (number_of e) (q c.caller.number))
+receive_queues c (receive.Locked (locked.Release (returns.Taken e))) asks.Released q =
+    upd q c.caller.number (without (number_of e) (q c.caller.number))
 receive_queues c p r q = q
 
 abbrev pub receive_board : Programs → Board → ℕ → Context → ReceiveCall → ReceiveAt → Response → Board
@@ -176,12 +178,15 @@ create_context x c p r h = record x { at = create_at c (create.leads c h p r) }
 
 -- the context of a new thread, and where it stands before its thread is made
 abbrev pub new_context : Programs → CreateCall → ThreadId → At → Context
-new_context g c id p = record { serial = 0; own = created_word id.version c.priority; position = g.start id c.program; at = p }
+new_context g c id p =
+    record { serial = 0; own = created_word id.version c.priority; position = g.start id c.program; at = p }
 
 -- a context is placed, and begins once its thread is made
 abbrev pub create_contexts : Programs → CreateCall → CreateAt → Response → (ℕ → Context) → ℕ → Context
-create_contexts g c (create.Locked (create_locked.PlaceContext id)) asks.Placed s = upd s id.number (new_context g c id Coming)
-create_contexts g c (create.Locked (create_locked.CommitCreate id)) asks.Won s = upd s id.number (new_context g c id (Alone (location.Between None)))
+create_contexts g c (create.Locked (create_locked.PlaceContext id)) asks.Placed s =
+    upd s id.number (new_context g c id Coming)
+create_contexts g c (create.Locked (create_locked.CommitCreate id)) asks.Won s =
+    upd s id.number (new_context g c id (Alone (location.Between None)))
 create_contexts g c p r s = s
 
 abbrev pub create_board : Programs → Board → ℕ → Context → CreateCall → CreateAt → Response → Board
@@ -212,14 +217,17 @@ destroy_number c p = c.who.number
 
 -- An entry goes once its sender was freed; and the victim's own leaves the queue of each number that is visited.
 abbrev pub destroy_queues : DestroyCall → DestroyAt → Response → (ℕ → List SenderEntry) → ℕ → List SenderEntry
-destroy_queues c (destroy.Victim (victim.FreeSender sender seen)) asks.Won q = if seen.on then upd q c.who.number (rest (q c.who.number)) else q
+destroy_queues c (destroy.Victim (victim.FreeSender sender seen)) asks.Won q =
+    if seen.on then upd q c.who.number (rest (q c.who.number)) else q
 destroy_queues c (destroy.Pushing (destroy_pushing.PushSender sender seen)) asks.Released q = upd q c.who.number (rest (q c.who.number))
-destroy_queues c (destroy.Visit (visit.ReleaseVisitedLock visited)) asks.Released q = upd q visited (without_thread (who_of c.who) (q visited))
+destroy_queues c (destroy.Visit (visit.ReleaseVisitedLock visited)) asks.Released q =
+    upd q visited (without_thread (who_of c.who) (q visited))
 destroy_queues c p r q = q
 
 -- the victim's context is removed
 abbrev pub destroy_contexts : DestroyCall → DestroyAt → Response → (ℕ → Context) → ℕ → Context
-destroy_contexts c (destroy.Locked destroy_locked.RemoveContext) asks.Removed s = upd s c.who.number (record (s c.who.number) { at = Nowhere })
+destroy_contexts c (destroy.Locked destroy_locked.RemoveContext) asks.Removed s =
+    upd s c.who.number (record (s c.who.number) { at = Nowhere })
 destroy_contexts c p r s = s
 
 abbrev pub destroy_board : Programs → Board → ℕ → Context → DestroyCall → DestroyAt → Response → Board
@@ -250,11 +258,22 @@ abbrev pub placed : Board → ℕ → Context → Board
 placed b i x = record b { context = upd b.context i x }
 
 abbrev pub begun_at : ℕ → ThreadId → Phase → At
-begun_at size me (phase.Send to message zero joined) = let c : SendCall = record { caller = me; to = to; message = message; zero = zero; manner = send.manner_of joined } in InSend c (send.first_of c)
-begun_at size me (phase.Reply to message zero) = let c : SendCall = record { caller = me; to = to; message = message; zero = zero; manner = manner.Reply } in InSend c (send.first_of c)
-begun_at size me (phase.Receive from zero) = let c : ReceiveCall = record { caller = me; from = from; zero = zero; picks = false } in InReceive c (receive.first_of c)
-begun_at size me (phase.Create program priority) = let c : CreateCall = record { caller = me; program = program; priority = priority } in InCreate c (create.first_of c)
-begun_at size me (phase.Destroy who) = let c : DestroyCall = record { caller = me; who = who; count = size } in InDestroy c (destroy.first_of c)
+begun_at size me (phase.Send to message zero joined) = let c : SendCall =
+    record {
+      caller = me;
+      to = to;
+      message = message;
+      zero = zero;
+      manner = send.manner_of joined;
+    } in InSend c (send.first_of c)
+begun_at size me (phase.Reply to message zero) = let c : SendCall =
+    record { caller = me; to = to; message = message; zero = zero; manner = manner.Reply } in InSend c (send.first_of c)
+begun_at size me (phase.Receive from zero) = let c : ReceiveCall =
+    record { caller = me; from = from; zero = zero; picks = false } in InReceive c (receive.first_of c)
+begun_at size me (phase.Create program priority) = let c : CreateCall =
+    record { caller = me; program = program; priority = priority } in InCreate c (create.first_of c)
+begun_at size me (phase.Destroy who) = let c : DestroyCall =
+    record { caller = me; who = who; count = size } in InDestroy c (destroy.first_of c)
 begun_at size me phase.End = Alone location.CommitEnd
 
 abbrev pub begun : Programs → Context → Option Reply → At → Context

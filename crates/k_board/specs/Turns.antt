@@ -46,17 +46,29 @@ is_going (switch.Returned s) = true
 is_going (switch.Finished s) = false
 
 pub data Turn (g : Programs) (b : Board) (i : ℕ) : Board → Type 0 where
-  sends : (c : SendCall) (p : SendAt) (r : Response) → (b.context i).at ≡ InSend c p → Answers b (send.ask_of c (b.context i).own p) r → Turn g b i (send_board g b i (b.context i) c p r)
-  receives : (c : ReceiveCall) (p : ReceiveAt) (r : Response) → (b.context i).at ≡ InReceive c p → Answers b (receive.ask_of c (b.context i).own p) r → Turn g b i (receive_board g b i (b.context i) c p r)
-  creates : (c : CreateCall) (p : CreateAt) (r : Response) → (b.context i).at ≡ InCreate c p → Answers b (create.ask_of c (b.context i).own p) r → Turn g b i (create_board g b i (b.context i) c p r)
-  destroys : (c : DestroyCall) (p : DestroyAt) (r : Response) → (b.context i).at ≡ InDestroy c p → Answers b (destroy.ask_of c (b.context i).own p) r → Turn g b i (destroy_board g b i (b.context i) c p r)
-  goes_alone : (p : ThreadLocation) (r : Response) → (b.context i).at ≡ Alone p → can_ask p ≡ true → Answers b (alone.ask_of (id_at b i) (b.context i).own p) r → Turn g b i (alone_board g b i (b.context i) p r)
-  begins : (l : Option Reply) (f : Phase) → (b.context i).at ≡ Alone (location.Between l) → g.next (b.context i).position l ≡ next.Phase f → Turn g b i (placed b i (begun g (b.context i) l (begun_at b.size (id_at b i) f)))
-  turns_to_work : (l : Option Reply) (count : ℕ) → (b.context i).at ≡ Alone (location.Between l) → g.next (b.context i).position l ≡ next.Work count → Turn g b i (placed b i (working g (b.context i) l count))
-  wakes : (b.context i).at ≡ Alone location.Asleep → Turn g b i (placed b i (record (b.context i) { at = Alone location.LookAgain }))
-  switches : (c : SwitchCall) (p : SwitchAt) (r : Response) → (b.context i).at ≡ InSwitch c p → is_going p ≡ true → Answers b (switch.ask_of c p) r → Turn g b i (switch_board b i (b.context i) c p r)
-  begins_switch : (c : SwitchCall) → (b.context i).at ≡ Resting → Turn g b i (placed b i (record (b.context i) { at = InSwitch c switch.AcquireReady }))
-  ends_switch : (c : SwitchCall) (s : Switched) → (b.context i).at ≡ InSwitch c (switch.Finished s) → Turn g b i (placed b i (record (b.context i) { at = Resting }))
+  sends : (c : SendCall) (p : SendAt) (r : Response) → (b.context i).at ≡ InSend c p →
+      Answers b (send.ask_of c (b.context i).own p) r → Turn g b i (send_board g b i (b.context i) c p r)
+  receives : (c : ReceiveCall) (p : ReceiveAt) (r : Response) → (b.context i).at ≡ InReceive c p →
+      Answers b (receive.ask_of c (b.context i).own p) r → Turn g b i (receive_board g b i (b.context i) c p r)
+  creates : (c : CreateCall) (p : CreateAt) (r : Response) → (b.context i).at ≡ InCreate c p →
+      Answers b (create.ask_of c (b.context i).own p) r → Turn g b i (create_board g b i (b.context i) c p r)
+  destroys : (c : DestroyCall) (p : DestroyAt) (r : Response) → (b.context i).at ≡ InDestroy c p →
+      Answers b (destroy.ask_of c (b.context i).own p) r → Turn g b i (destroy_board g b i (b.context i) c p r)
+  goes_alone : (p : ThreadLocation) (r : Response) → (b.context i).at ≡ Alone p → can_ask p ≡ true →
+      Answers b (alone.ask_of (id_at b i) (b.context i).own p) r → Turn g b i (alone_board g b i (b.context i) p r)
+  begins : (l : Option Reply) (f : Phase) → (b.context i).at ≡ Alone (location.Between l) →
+      g.next (b.context i).position l ≡ next.Phase f →
+      Turn g b i (placed b i (begun g (b.context i) l (begun_at b.size (id_at b i) f)))
+  turns_to_work : (l : Option Reply) (count : ℕ) → (b.context i).at ≡ Alone (location.Between l) →
+      g.next (b.context i).position l ≡ next.Work count → Turn g b i (placed b i (working g (b.context i) l count))
+  wakes : (b.context i).at ≡ Alone location.Asleep →
+      Turn g b i (placed b i (record (b.context i) { at = Alone location.LookAgain }))
+  switches : (c : SwitchCall) (p : SwitchAt) (r : Response) → (b.context i).at ≡ InSwitch c p → is_going p ≡ true →
+      Answers b (switch.ask_of c p) r → Turn g b i (switch_board b i (b.context i) c p r)
+  begins_switch : (c : SwitchCall) → (b.context i).at ≡ Resting →
+      Turn g b i (placed b i (record (b.context i) { at = InSwitch c switch.AcquireReady }))
+  ends_switch : (c : SwitchCall) (s : Switched) → (b.context i).at ≡ InSwitch c (switch.Finished s) →
+      Turn g b i (placed b i (record (b.context i) { at = Resting }))
 
 -- WHAT ELSE THE STEPS STAND ON
 
@@ -93,8 +105,13 @@ IsUnused b n = ((b.seen n).word ≡ dead_word (version_at b.numbers n)) × ((b.c
 -- it; and the number that a create chooses is unused.
 pub record Supports (b : Board) (i : ℕ) : Type 0 where
   pub once : (t : ℕ) → IsOnceEach (b.queue t)
-  pub unanswered : (t : ℕ) → is_waiting (b.seen t).word.state ≡ true → (excepted_by (b.owner t) b.context t && is_open (b.seen t).word.state) ≡ false → (b.seen t).told ≡ None
-  pub fresh : (c : SendCall) → (b.context i).at ≡ InSend c (send.Locked send_locked.CommitWait) → (b.seen i).word ≡ (b.context i).own → stands c.caller.number (b.queue c.to.number) ≡ false
-  pub row : (c : DestroyCall) (w : StateWord) → (b.context i).at ≡ InDestroy c (destroy.Victim (victim.CommitKill w)) → (b.seen c.who.number).word ≡ w → AllWait c.who b.seen (b.queue c.who.number)
-  pub alone : (c : DestroyCall) (w : StateWord) → (b.context i).at ≡ InDestroy c (destroy.Victim (victim.CommitKill w)) → (b.seen c.who.number).word ≡ w → stands c.who.number (b.queue c.who.number) ≡ false
-  pub unused : (c : CreateCall) (n : ℕ) → (b.context i).at ≡ InCreate c (create.Locked create_locked.LoadCaller) → is_waiting (b.seen i).word.state ≡ false → lowest_free b.numbers ≡ Some n → IsUnused b n
+  pub unanswered : (t : ℕ) → is_waiting (b.seen t).word.state ≡ true →
+      (excepted_by (b.owner t) b.context t && is_open (b.seen t).word.state) ≡ false → (b.seen t).told ≡ None
+  pub fresh : (c : SendCall) → (b.context i).at ≡ InSend c (send.Locked send_locked.CommitWait) →
+      (b.seen i).word ≡ (b.context i).own → stands c.caller.number (b.queue c.to.number) ≡ false
+  pub row : (c : DestroyCall) (w : StateWord) → (b.context i).at ≡ InDestroy c (destroy.Victim (victim.CommitKill w)) →
+      (b.seen c.who.number).word ≡ w → AllWait c.who b.seen (b.queue c.who.number)
+  pub alone : (c : DestroyCall) (w : StateWord) → (b.context i).at ≡ InDestroy c (destroy.Victim (victim.CommitKill w)) →
+      (b.seen c.who.number).word ≡ w → stands c.who.number (b.queue c.who.number) ≡ false
+  pub unused : (c : CreateCall) (n : ℕ) → (b.context i).at ≡ InCreate c (create.Locked create_locked.LoadCaller) →
+      is_waiting (b.seen i).word.state ≡ false → lowest_free b.numbers ≡ Some n → IsUnused b n

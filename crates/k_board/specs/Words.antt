@@ -35,7 +35,8 @@ pub record Programs : Type 0 where
 -- A position is reached over works alone. There is no reply to take in after a work.
 pub data Walks (g : Programs) (p : Position) (r : Option Reply) : Position → Option Reply → Type 0 where
   here : Walks g p r p r
-  works : (q : Position) (l : Option Reply) (count : ℕ) → Walks g p r q l → g.next q l ≡ next.Work count → Walks g p r (g.moved q l) None
+  works : (q : Position) (l : Option Reply) (count : ℕ) → Walks g p r q l → g.next q l ≡ next.Work count →
+      Walks g p r (g.moved q l) None
 
 -- The program gives this call after a position and a reply, and stands there once it is made.
 pub record Begins (g : Programs) (p : Position) (r : Option Reply) (f : Phase) (after : Position) : Type 0 where

@@ -17,7 +17,7 @@ use Rattle.k_good.proofs.NumbersKeep.{numbers_keep, unused_is}
 use Rattle.k_good.proofs.Outward.{none_of_its_own, outward_keep}
 use Rattle.k_good.proofs.Starts.{locks_start}
 
-supports : (g : Programs) (b : Board) (i : ℕ) → IsGood g b → QueuesTell b i → Supports b i
+pub supports : (g : Programs) (b : Board) (i : ℕ) → IsGood g b → QueuesTell b i → Supports b i
 supports g b i h q = record {
   once = q.once;
   unanswered = q.unanswered;

@@ -7,3 +7,7 @@ pub mod NumbersKeep
 pub mod Starts
 pub mod Outward
 pub mod Goods
+pub mod Words
+pub mod Ranges
+pub mod RangesKeep
+pub mod RangesStart

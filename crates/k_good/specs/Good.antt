@@ -31,9 +31,12 @@ pub record IsGood (g : Programs) (b : Board) : Type 0 where
 -- history has it; who begins to wait has no entry of before; and those in the queue of one that is destroyed wait for it.
 pub record QueuesTell (b : Board) (i : ℕ) : Type 0 where
   pub once : (t : ℕ) → IsOnceEach (b.queue t)
-  pub unanswered : (t : ℕ) → is_waiting (b.seen t).word.state ≡ true → (excepted_by (b.owner t) b.context t && is_open (b.seen t).word.state) ≡ false → (b.seen t).told ≡ None
-  pub fresh : (c : SendCall) → (b.context i).at ≡ InSend c (send.Locked send_locked.CommitWait) → (b.seen i).word ≡ (b.context i).own → stands c.caller.number (b.queue c.to.number) ≡ false
-  pub row : (c : DestroyCall) (w : StateWord) → (b.context i).at ≡ InDestroy c (destroy.Victim (victim.CommitKill w)) → (b.seen c.who.number).word ≡ w → AllWait c.who b.seen (b.queue c.who.number)
+  pub unanswered : (t : ℕ) → is_waiting (b.seen t).word.state ≡ true →
+      (excepted_by (b.owner t) b.context t && is_open (b.seen t).word.state) ≡ false → (b.seen t).told ≡ None
+  pub fresh : (c : SendCall) → (b.context i).at ≡ InSend c (send.Locked send_locked.CommitWait) →
+      (b.seen i).word ≡ (b.context i).own → stands c.caller.number (b.queue c.to.number) ≡ false
+  pub row : (c : DestroyCall) (w : StateWord) → (b.context i).at ≡ InDestroy c (destroy.Victim (victim.CommitKill w)) →
+      (b.seen c.who.number).word ≡ w → AllWait c.who b.seen (b.queue c.who.number)
 
 -- The list of numbers agrees with the words, and a number without a thread has no context.
 pub record NumbersAgree (seen : ℕ → Seen) (numbers : ThreadNumbers) (context : ℕ → Context) : Type 0 where

@@ -1,4 +1,5 @@
 pub mod Locks
 pub mod Numbers
 pub mod Outward
+pub mod Ranges
 pub mod Good

@@ -78,5 +78,7 @@ pub record NumbersHold (seen : ℕ → Seen) (numbers : ThreadNumbers) (table : 
   pub whole : length numbers.present ≡ length numbers.versions
   pub spelled : (t : ℕ) → is_dead (seen t).word ≡ true → (seen t).word ≡ dead_word (seen t).word.version
   pub version : (t : ℕ) → by_owner made_at table context t ≡ false → version_at numbers t ≡ (seen t).word.version
-  pub present : (t : ℕ) → by_owner made_at table context t ≡ false → by_owner killed_at table context t ≡ false → is_present numbers t ≡ not (is_dead (seen t).word)
-  pub vacant : (t : ℕ) → t < length numbers.versions → is_dead (seen t).word ≡ true → by_owner there_at table context t ≡ false → (context t).at ≡ Nowhere
+  pub present : (t : ℕ) → by_owner made_at table context t ≡ false → by_owner killed_at table context t ≡ false →
+      is_present numbers t ≡ not (is_dead (seen t).word)
+  pub vacant : (t : ℕ) → t < length numbers.versions → is_dead (seen t).word ≡ true →
+      by_owner there_at table context t ≡ false → (context t).at ≡ Nowhere

@@ -22,10 +22,14 @@ use Rattle.k_switch.specs.Carriers.{last_serial}
 use Rattle.k_switch.specs.Carriers as carriers
 use Rattle.k_context.specs.declared.owner.Owner.{Owner}
 use Rattle.k_context.specs.declared.owner.Owner.TheVariants as owner
-use Rattle.k_context.specs.Contexts.{ContextSeen, Thread, Carrier, done_of, resumed, serial_of}
+use Rattle.k_context.specs.Contexts.{ContextSeen, Thread, Carrier, done_of, owner_of, resumed, serial_of}
 use Rattle.k_carrier.specs.declared.marks.StepMark.{StepMark}
 use Rattle.k_world.specs.Lawful.{IsLawfulMarks, IsOnceMade, belongs_to, numbers_of, same_step}
-use Rattle.k_world.specs.Marks.{course_by, course_told, has_mark, marks_by, same_owner, step_mark}
+use Rattle.k_script.specs.Script.{Script}
+use Rattle.k_carrier.specs.Running.{runner_of}
+use Rattle.k_world.specs.Steps.{course_in, moved, step_in}
+use Rattle.k_world.specs.Worlds.{World}
+use Rattle.k_world.specs.Marks.{Course, Still, Onward, HeldUp, course_by, course_told, has_mark, marks_by, same_owner, step_mark}
 
 -- WHICH STEPS HAVE A MARK
 
@@ -124,6 +128,19 @@ lawful_next marks m h e o serial = elim (cases_Bool (belongs_to o serial m)) [
       let same : numbers_of o serial (marks ++ m ∷ []) ≡ numbers_of o serial marks = numbers_more o serial marks m ∙ (rw f (append-nil (numbers_of o serial marks))) in
       rw same (h o serial)
 ]
+
+-- with what a step leaves
+lawful_course : (marks : List StepMark) (runner : Owner) (course : Course) → IsLawfulMarks marks → ((v : ContextSeen) → course ≡ Onward v → length (numbers_of (owner_of v) (serial_of v) marks) ≡ done_of v) → IsLawfulMarks (marks ++ marks_by runner course)
+lawful_course marks runner Still h f = rw (append-nil marks) h
+lawful_course marks runner (HeldUp v wanted i) h f = rw (append-nil marks) h
+lawful_course marks runner (Onward v) h f = elim (cases_Bool (has_mark v)) [
+  | inl t ↦ rw t (lawful_next marks (step_mark v runner) h (f v refl))
+  | inr g ↦ rw g (rw (append-nil marks) h)
+]
+
+pub lawful_step : (script : Script) (c : ℕ) (w : World) → IsLawfulMarks w.steps → ((v : ContextSeen) → course_in (step_in script c w) ≡ Onward v → length (numbers_of (owner_of v) (serial_of v) w.steps) ≡ done_of v) → IsLawfulMarks (moved script c w).steps
+unfolding moved
+lawful_step script c w h f = lawful_course w.steps (runner_of (step_in script c w).asked) (course_in (step_in script c w)) h f
 
 -- EACH ONCE
 

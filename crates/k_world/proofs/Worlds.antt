@@ -1,5 +1,5 @@
 -- What a step leaves as it was: lengths of lists, all words but one, all slots but one, and what was logged.
-use Rattle.std.proofs.Common.{◌≡◌, ◌≢◌, ℕ, zero, suc, ◌+◌, ◌≤◌, Bool, true, false, not, List, [], ◌∷◌, ◌++◌, length, get_or, replicate, Option, Some, None, IfSome, refl, ap, ◌∙◌, arith, inl, inr}
+use Rattle.std.proofs.Common.{◌≡◌, ◌≢◌, ℕ, zero, suc, ◌+◌, ◌≤◌, ◌==◌, Bool, true, false, not, List, [], ◌∷◌, ◌++◌, length, get_or, replicate, Option, Some, None, IfSome, refl, ap, ◌∙◌, arith, inl, inr}
 use Rattle.std.specs.List.{IsDistinct, slice_set}
 use Rattle.std.proofs.lemmas.Bool.{cases_Bool}
 use Rattle.std.proofs.lemmas.List.{get_or-set_other, length-map, length-set, length_push, set-get_or, take_all, take_at}
@@ -10,11 +10,11 @@ use Rattle.k_script.specs.Script.{Script}
 use Rattle.k_context.specs.Contexts.{ContextSeen, owner_of}
 use Rattle.k_carrier.specs.declared.marks.Link.{Link}
 use Rattle.k_carrier.specs.declared.marks.Want.{Want}
-use Rattle.k_carrier.specs.Moves.{MoveSeen, Look}
+use Rattle.k_carrier.specs.Moves.{MoveSeen, Look, TakeContext, GiveContext}
 use Rattle.k_carrier.specs.Seen.{CarrierSeen}
-use Rattle.k_locks.specs.Places.{index_of}
+use Rattle.k_locks.specs.Places.{index_of, slot_of}
 use Rattle.k_world.specs.Boot.{booted}
-use Rattle.k_world.specs.Frames.{Extends, IsSized}
+use Rattle.k_world.specs.Frames.{Extends, IsOfContext, IsSized}
 use Rattle.k_world.specs.Lawful.{IsLawfulLog}
 use Rattle.k_world.specs.Marks.{Course, Still, Onward, HeldUp, broken, chained, with_use, dropped, got_by, has_mark, held_up, held_up_by, is_linked, link_of, same_goal, standing_at, still_waits}
 use Rattle.k_world.specs.Moves.{Change, change_of, found_by, slots_by, with_change, word_on, words_by}
@@ -161,6 +161,24 @@ changed_other (Some x) slots p n = get_or-set_other slots x.slot p x.holds Away 
 
 pub slots_other : (script : Script) (w : World) (m : MoveSeen) (p : ℕ) → IfSome (change_of script m (found_by w m)) (λ x. p ≢ x.slot) → get_or (slots_by script w m) p Away ≡ slot_at w p
 slots_other script w m p n = changed_other (change_of script m (found_by w m)) w.slots p n
+
+look_of : (script : Script) (n : ℕ) → IsOfContext script (Look n) n
+look_of script n = record { own_word = refl; own_slot = λ found. tt }
+
+take_of : (script : Script) (n old new : ℕ) → IsOfContext script (TakeContext n old new) n
+take_of script n old new = record { own_word = refl; own_slot = slot }
+  where
+    slot : (found : ℕ) → IfSome (change_of script (TakeContext n old new) found) (λ c. c.slot ≡ slot_of n)
+    slot found = elim (cases_Bool (found == old)) [
+      | inl t ↦ rw t refl
+      | inr f ↦ rw f tt
+    ]
+
+give_of : (script : Script) (n new : ℕ) (v : ContextSeen) → IsOfContext script (GiveContext n new v) n
+give_of script n new v = record { own_word = refl; own_slot = λ found. refl }
+
+pub of_context : (script : Script) (n old new : ℕ) (v : ContextSeen) → IsOfContext script (Look n) n × IsOfContext script (TakeContext n old new) n × IsOfContext script (GiveContext n new v) n
+of_context script n old new v = (look_of script n, take_of script n old new, give_of script n new v)
 
 -- THE LOGS GROW
 

@@ -1,8 +1,12 @@
 -- What a step leaves as it was.
-use Rattle.std.specs.Prelude.{ℕ, ◌≡◌, Bool, true, false, List, length, take}
+use Rattle.std.specs.Prelude.{ℕ, ◌≡◌, Bool, true, false, IfSome, List, length, take}
 use Rattle.k_script.specs.Script.{Script}
+use Rattle.k_locks.specs.declared.locks.WordName.TheVariants as word
+use Rattle.k_locks.specs.Places.{slot_of}
+use Rattle.k_carrier.specs.Moves.{MoveSeen}
 use Rattle.k_carrier.specs.Answers.{AnswerSeen}
 use Rattle.k_carrier.specs.Answers as answer
+use Rattle.k_world.specs.Moves.{change_of, word_on}
 use Rattle.k_world.specs.Worlds.{World}
 
 -- whether it is the answer to a step of a section
@@ -12,6 +16,11 @@ is_section (answer.Looked bits) = false
 is_section (answer.Took v) = false
 is_section (answer.TakeLost found) = false
 is_section answer.Given = false
+
+-- A move that is on the word of a context, and on its slot alone.
+pub record IsOfContext (script : Script) (m : MoveSeen) (n : ℕ) : Type 0 where
+  pub own_word : word_on m ≡ word.Context n
+  pub own_slot : (found : ℕ) → IfSome (change_of script m found) (λ c. c.slot ≡ slot_of n)
 
 -- Each list is as long as it was; logs are no such lists.
 pub record IsSized (w w' : World) : Type 0 where

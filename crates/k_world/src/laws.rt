@@ -24,11 +24,11 @@ ghost use Rattle.k_carrier.specs.Rules.{is_interrupted};
 ghost use Rattle.k_carrier.specs.Seen.{HandSeen, new_carrier};
 ghost use Rattle.k_world.specs.Boot.{boot_context, boot_home, boot_ready, boot_resting, boot_state, booted, has_start, thread_line};
 ghost use Rattle.k_world.specs.Examples.{ClientIsHelped, CreatorHelpsTwo, ReceiverIsHelped};
-ghost use Rattle.k_world.specs.Frames.{Extends, IsBootSized, IsSized, is_section};
+ghost use Rattle.k_world.specs.Frames.{Extends, IsBootSized, IsOfContext, IsSized, is_section};
 ghost use Rattle.k_world.specs.Lawful.{IsGot, IsLater, IsLawfulLog, IsLawfulMarks, IsOnceMade, numbers_of};
 ghost use Rattle.k_world.specs.Marks.{Onward, course_of, has_mark, held_up, mark_at, marks_by, same_goal, same_owner, standing_at, step_mark};
 ghost use Rattle.k_world.specs.Moves.{change_of, found_by, slots_by, word_on, words_by};
-ghost use Rattle.k_world.specs.Steps.{CarrierStep, carrier_after, moved, moved_by, parked, sliced, started, waits_after, waits_by};
+ghost use Rattle.k_world.specs.Steps.{CarrierStep, carrier_after, course_in, moved, moved_by, parked, sliced, started, step_in, waits_after, waits_by};
 ghost use Rattle.k_world.specs.Worlds.{Away, WaitLog, World, carrier_at, slot_at, word_at};
 
 /// What stands where in the world in which a run begins.
@@ -49,10 +49,12 @@ pub fn a_thread_waits_for_its_start()
     ensures ready { (script : Script) (n : ℕ) → n < length script.threads → (thread_line script n).priority < 64 → has_start script n ≡ false → stands n (list_of (boot_ready script).lists (thread_line script n).priority) ≡ true }
 {}
 
-/// A step changes one word and one slot at most. A look changes none.
+/// A step changes one word and one slot at most. A look, a take and a give of a context are on its word and slot alone, and a look
+/// changes nothing.
 pub fn a_step_is_on_one_word()
     ensures words { (w : World) (i : ℕ) (m : MoveSeen) (n : ℕ) → n ≢ index_of (word_on m) → slice_index_or (words_by w i m) n 0 ≡ slice_index_or w.words n 0 }
     ensures slots { (script : Script) (w : World) (m : MoveSeen) (n : ℕ) → IfSome (change_of script m (found_by w m)) (λ c. n ≢ c.slot) → slice_index_or (slots_by script w m) n Away ≡ slot_at w n }
+    ensures contexts { (script : Script) (n old new : ℕ) (v : ContextSeen) → IsOfContext script (moves.Look n) n × IsOfContext script (moves.TakeContext n old new) n × IsOfContext script (moves.GiveContext n new v) n }
     ensures looks { (script : Script) (w : World) (i n : ℕ) → (words_by w i (moves.Look n) ≡ w.words) × (slots_by script w (moves.Look n) ≡ w.slots) }
 {}
 
@@ -89,11 +91,12 @@ pub fn a_marked_step_is_counted()
     ensures { (v : ContextSeen) (a : Answer) → serial_of v ≤ last_serial → done_of v ≤ last_serial → done_of (resumed v a) ≡ (if not (is_again a) && has_mark v then one_more (done_of v) else done_of v) }
 {}
 
-/// The marks of a call are numbered in the order of its steps, so none stands twice. So it stays with one mark more, where the
-/// context has counted the marks of its call.
+/// The marks of a call are numbered in the order of its steps, so none stands twice. So it stays with one mark more, and after each
+/// step, where the context has counted the marks of its call.
 pub fn marks_are_in_order()
     ensures none { IsLawfulMarks [] }
     ensures once { (marks : List StepMark) → IsLawfulMarks marks → IsOnceMade marks }
+    ensures moved { (script : Script) (c : ℕ) (w : World) → IsLawfulMarks w.steps → ((v : ContextSeen) → course_in (step_in script c w) ≡ Onward v → length (numbers_of (owner_of v) (serial_of v) w.steps) ≡ done_of v) → IsLawfulMarks (moved script c w).steps }
     ensures next { (marks : List StepMark) (v : ContextSeen) (runner : Owner) → IsLawfulMarks marks → length (numbers_of (owner_of v) (serial_of v) marks) ≡ done_of v → IsLawfulMarks (marks ++ step_mark v runner ∷ []) }
 {}
 

@@ -1,6 +1,6 @@
 use Rattle.std.proofs.Common.{refl}
 use Rattle.k_world.specs.Marks.{step_mark}
-use Rattle.k_world.proofs.Steps.{lawful_next, lawful_once}
+use Rattle.k_world.proofs.Steps.{lawful_next, lawful_once, lawful_step}
 use Rattle.k_world.proofs.laws.marks_are_in_order.Goals as goal
 
 pub returns-clause-none : goal.returns-clause-none
@@ -11,3 +11,6 @@ returns-clause-next c = λ marks v runner h e. lawful_next marks (step_mark v ru
 
 pub returns-clause-once : goal.returns-clause-once
 returns-clause-once c = lawful_once
+
+pub returns-clause-moved : goal.returns-clause-moved
+returns-clause-moved c = lawful_step

@@ -22,12 +22,13 @@ use Rattle.k_positions.proofs.Playing.{IsAt, IsPlaying}
 use Rattle.k_positions.proofs.Histories.{step_gives}
 use Rattle.k_positions.proofs.Plays.{caller_at}
 use Rattle.k_positions.proofs.Going.{goes_on}
-use Rattle.k_positions.proofs.Ends.{plays_from}
 use Rattle.k_history.specs.declared.verdict.Verdict.{Verdict}
 use Rattle.k_history.specs.declared.verdict.Verdict.TheVariants as verdict
 use Rattle.k_lines.specs.Words.{lines_of}
 use Rattle.k_history.specs.Lines.{Tells, TellAll}
-use Rattle.k_history.specs.Verdicts.{Follows, IsDue, IsDueAct, IsFault, IsFirstFault, IsVerdict}
+use Rattle.k_room.proofs.Stands.{runs_one}
+use Rattle.k_room.proofs.Wholes.{follows_from}
+use Rattle.k_history.specs.Verdicts.{IsDue, IsDueAct, IsFault, IsFirstFault, IsVerdict}
 use Rattle.k_history.specs.Judging.{IsJudged, IsLast, LineGoesOn}
 
 -- THE LINES SO FAR are those of a legal, playing history.
@@ -58,15 +59,7 @@ checked_more script bytes rest line after index k n at to c split g = record {
   playing = goes_on script c.front k n at to g.entry c.playing g.goes.made g.goes.next g.goes.moves;
 }
 
--- A PLAYING HISTORY follows the script, and gives each thread's next call.
-
-pub follows_from : (script : Script) (es : List Entry) (k : KernelState) (at : ℕ → Position) → IsPlaying script es k at → Follows script es k
-follows_from script es k at p = record { legal = p.replay; plays = plays_from script es k at p }
-
--- The calls of a program lead to one position.
-pub runs_one : (version : ℕ) (replies : ℕ → Option Reply) (p q r : Position) (s m n : ℕ) (calls : List (ℕ × Phase)) → Runs version replies p s calls q m → Runs version replies p s calls r n → (q ≡ r) × (m ≡ n)
-runs_one version replies p q r s m n [] h i = (h.0 ∙ sym i.0, h.1 ∙ sym i.1)
-runs_one version replies p q r s m n (c ∷ calls) h i = runs_one version replies (moved p (replies s)) q r (s + 1) m n calls h.2 i.2
+-- A PLAYING HISTORY gives each thread's next call.
 
 before_next : (k : KernelState) (who : ThreadId) → reply_before k who ((k.place who.number).serial + 1) ≡ reply_to_last k who
 before_next k who = ap (λ (s : ℕ). reply_to k.replies who s) (omega arith)

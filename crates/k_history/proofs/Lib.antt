@@ -2,7 +2,6 @@ mod Cut
 mod Judged
 mod Options
 mod Parts
-mod Prefixes
 mod Read
 mod Spelled
 pub mod Spelling

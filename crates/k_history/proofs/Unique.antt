@@ -17,9 +17,10 @@ use Rattle.k_history.specs.declared.verdict.Verdict.{Verdict}
 use Rattle.k_history.specs.declared.verdict.Verdict.TheVariants as verdict
 use Rattle.k_lines.specs.Words.{lines_of}
 use Rattle.k_history.specs.Lines.{Tells, TellAll}
-use Rattle.k_history.specs.Verdicts.{Follows, IsDueAct, IsFault, IsFirstFault, IsIllegal, IsStrange, IsDifferent, IsVerdict}
+use Rattle.k_room.specs.Histories.{Follows}
+use Rattle.k_room.proofs.Fronts.{front_of, next_due, replay_one}
+use Rattle.k_history.specs.Verdicts.{IsDueAct, IsFault, IsFirstFault, IsIllegal, IsStrange, IsDifferent, IsVerdict}
 use Rattle.k_history.proofs.Spelling.{line_one}
-use Rattle.k_history.proofs.Prefixes.{front_of, next_due, replay_one}
 use Rattle.k_history.proofs.Judged.{due_from}
 
 tells_one : (size : ℕ) (line : List ℕ) (a b : Entry) → Tells size line a → Tells size line b → a ≡ b
@@ -132,9 +133,9 @@ not_longer script front long k end rest v s f last g x =
     let fault : IsFault script front k x.line v = subst (λ (r : List (List ℕ)). LastOf script front k r v) x.split last in
     let whole : Follows script (front ++ x.entry ∷ x.more) end = subst (λ (es : List Entry). Follows script es end) x.is g in
     let h = front_of script front (x.entry ∷ x.more) end s whole in
-    let same : h.state ≡ k = replay_one (opened_for script) front h.state k h.playing.replay f.legal in
-    let next = next_due script front x.more h.state h.rest.0 end h.positions x.entry h.playing h.rest.1 h.rest.2 whole.plays in
-    let due = due_from script front h.state h.rest.0 h.positions x.entry.event x.entry.outcome h.playing h.rest.1 x.entry.event.act refl next in
+    let same : h.state ≡ k = replay_one (opened_for script) front h.state k h.counted.playing.replay f.legal in
+    let next = next_due script front x.more h.state h.rest.0 end h.positions x.entry h.counted.playing h.rest.1 h.rest.2 whole.plays in
+    let due = due_from script front h.state h.rest.0 h.positions x.entry.event x.entry.outcome h.counted.playing h.rest.1 x.entry.event.act refl next in
     no_fault script front k h.rest.0 x.line x.entry v x.tells (subst (λ (m : KernelState). step m x.entry.event ≡ Ok (h.rest.0, x.entry.outcome)) same h.rest.1) (subst (λ (m : KernelState). IsDueAct script front m x.entry.event.who x.entry.event.act) same due) fault
 
 -- AT ONE LINE there is one fault.

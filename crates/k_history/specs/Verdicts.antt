@@ -10,19 +10,15 @@ use Rattle.k_ids.specs.declared.calls.Outcome.{Outcome}
 use Rattle.k_ids.specs.declared.histories.Entry.{Entry}
 use Rattle.k_model.specs.State.{KernelState}
 use Rattle.k_model.specs.Step.{step}
-use Rattle.k_model.specs.History.{IsReplay, IsLowestActive, calls_of}
+use Rattle.k_model.specs.History.{IsLowestActive, calls_of}
 use Rattle.k_script.specs.Script.{Script}
 use Rattle.k_text.specs.Texts.{Word, id_word, found_words, outcome_words, line_text}
-use Rattle.k_script.specs.Plays.{IsHistory, Plays, Position, Runs, opened_for, phase_next, program_of, reply_before, start_of}
+use Rattle.k_script.specs.Plays.{IsHistory, Position, Runs, phase_next, program_of, reply_before, start_of}
+use Rattle.k_room.specs.Histories.{Follows}
 use Rattle.k_history.specs.declared.verdict.Verdict.{Verdict}
 use Rattle.k_history.specs.declared.verdict.Verdict.TheVariants as verdict
 use Rattle.k_lines.specs.Words.{lines_of}
 use Rattle.k_history.specs.Lines.{Tells, TellAll}
-
--- BEFORE THE LINE: a legal history in which each thread's calls are those of its program so far, and the state that it leaves.
-pub record Follows (script : Script) (front : List Entry) (k : KernelState) : Type 0 where
-  pub legal : IsReplay (opened_for script) front k
-  pub plays : Plays script front k
 
 -- The call that a thread's program gives next, behind this history.
 pub record IsDue (script : Script) (front : List Entry) (k : KernelState) (who : ThreadId) (phase : Phase) : Type 0 where

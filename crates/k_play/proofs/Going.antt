@@ -13,8 +13,10 @@ use Rattle.k_script.specs.Place.{Place}
 use Rattle.k_positions.specs.Positions.{positions_after, positions_in, program_at, ArePlaces}
 use Rattle.k_positions.proofs.Ends.{plays_from}
 use Rattle.k_play.specs.Playing.{next_event}
-use Rattle.k_play.proofs.Invariant.{IsCounted, IsGoing, to_come}
-use Rattle.k_play.proofs.Starts.{starts_counted, starts_whole}
+use Rattle.k_room.specs.Room.{to_come}
+use Rattle.k_room.proofs.Counted.{IsCounted}
+use Rattle.k_room.proofs.Starts.{starts_counted, starts_whole}
+use Rattle.k_play.proofs.Invariant.{IsGoing}
 use Rattle.k_play.proofs.Steps.{next_goes, active_bounds, has_more}
 
 pub going_first : (script : Script) (es : List Entry) (k : KernelState) (places : List Place) (room : ℕ) → IsScript script → es ≡ [] → k ≡ opened_for script → ((t : ℕ) → t < length script.threads → positions_in script places t ≡ start_of script (program_at script t) (first_id t)) → ArePlaces script places → room ≡ 2 * phases_of script → IsGoing script es k places room

@@ -1,0 +1,5 @@
+mod Keeps
+mod Starts
+mod Runs
+mod Rests
+mod Waits

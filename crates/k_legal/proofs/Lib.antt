@@ -1,0 +1,11 @@
+pub mod ListRows
+pub mod Entries
+pub mod Changes
+pub mod SendLists
+pub mod ReceiveLists
+pub mod TableLists
+pub mod DestroyLists
+pub mod Messages
+pub mod Sums
+pub mod Starts
+pub mod Runs

@@ -1,0 +1,4 @@
+pub mod Ahead
+pub mod Came
+pub mod Turned
+pub mod Partners

@@ -1,0 +1,13 @@
+pub mod Raw
+pub mod Words
+pub mod Places
+pub mod Goes
+pub mod Guarded
+pub mod Heard
+pub mod Held
+pub mod Ledgers
+pub mod Takes
+pub mod Rested
+pub mod Steps
+pub mod Threads
+pub mod Boots

@@ -1,0 +1,4 @@
+pub mod Told
+pub mod Lasting
+pub mod Kept
+pub mod Carried

@@ -1,0 +1,16 @@
+pub mod Lists
+pub mod Entries
+pub mod Tasks
+pub mod Steps
+pub mod Quiet
+pub mod Moves
+pub mod Changes
+pub mod Frees
+pub mod StepKinds
+pub mod Words
+pub mod Sends
+pub mod Receives
+pub mod Creates
+pub mod Destroys
+pub mod Turns
+pub mod Proper

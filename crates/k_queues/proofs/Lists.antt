@@ -1,0 +1,71 @@
+-- What a linearization point makes of the lists of those who wait to send: `f` has of each number the entries of those who wait
+-- for its thread, in the order in which they came.
+use Rattle.std.specs.Prelude.{ℕ, ◌==◌, not, if◌then◌else◌, Option, Some, None, List, [], ◌∷◌, ◌++◌}
+use Rattle.std.specs.List.{filter}
+use Rattle.k_ids.specs.declared.threads.ThreadId.{ThreadId}
+use Rattle.k_ids.specs.declared.threads.Message.{Message}
+use Rattle.k_ids.specs.declared.calls.Phase.TheVariants as phase
+use Rattle.k_ids.specs.declared.calls.Act.{Act}
+use Rattle.k_ids.specs.declared.calls.Act.TheVariants as act
+use Rattle.k_ids.specs.declared.calls.Outcome.{Outcome}
+use Rattle.k_ids.specs.declared.calls.Outcome.TheVariants as outcome
+use Rattle.k_model.specs.Maps.{upd}
+use Rattle.k_model.specs.State.{same_id}
+use Rattle.k_senders.specs.declared.entries.SenderEntry.{SenderEntry}
+use Rattle.k_senders.specs.Entries.{entry_for, sender_of}
+use Rattle.k_senders.specs.Queue.{without}
+use Rattle.k_locks.specs.declared.points.Point.{Point}
+use Rattle.k_ipc.specs.SendTable as send
+use Rattle.k_ipc.specs.ReceiveTable as receive
+use Rattle.k_threads.specs.CreateTable as create
+use Rattle.k_threads.specs.DestroyTable as destroy
+use Rattle.k_caller.specs.Waits as alone
+use Rattle.k_board.specs.Words.{Programs}
+use Rattle.k_board.specs.Boards.{Board, hand_of, id_at}
+use Rattle.k_board.specs.Steps.{destroy_number}
+use Rattle.k_board.specs.Turns.{Turn, begins, begins_switch, creates, destroys, ends_switch, goes_alone, receives, sends, switches, turns_to_work, wakes}
+
+-- who begins to wait comes last
+abbrev pub queued : (ℕ → List SenderEntry) → ThreadId → ThreadId → Message → ℕ → List SenderEntry
+queued f me to message = upd f to.number (f to.number ++ entry_for me message ∷ [])
+
+-- the same by the call: a send and a reply alone may wait to send
+abbrev pub wait_noted : (ℕ → List SenderEntry) → ThreadId → Act → ℕ → List SenderEntry
+wait_noted f me (act.Call (phase.Send to message zero joined)) = queued f me to message
+wait_noted f me (act.Call (phase.Reply to message zero)) = queued f me to message
+wait_noted f me a = f
+
+-- a list without a thread that is destroyed
+abbrev pub left : ThreadId → List SenderEntry → List SenderEntry
+left who es = filter (λ e. not (same_id (sender_of e) who)) es
+
+-- nobody waits for a thread that is destroyed, and it waits for none
+abbrev pub kill_noted : (ℕ → List SenderEntry) → Act → ℕ → List SenderEntry
+kill_noted f (act.Call (phase.Destroy who)) = λ t. if t == who.number then [] else left who (f t)
+kill_noted f a = f
+
+-- whose message is taken waits no more
+abbrev pub outcome_noted : (ℕ → List SenderEntry) → ThreadId → Act → Outcome → ℕ → List SenderEntry
+outcome_noted f me a outcome.Waits = wait_noted f me a
+outcome_noted f me a (outcome.Took from message) = upd f me.number (without from.number (f me.number))
+outcome_noted f me a outcome.Killed = kill_noted f a
+outcome_noted f me a o = f
+
+-- all lists after a point, or as they were
+abbrev pub lists_after : Option Point → (ℕ → List SenderEntry) → ℕ → List SenderEntry
+lists_after None f = f
+lists_after (Some p) f = outcome_noted f p.who p.act p.outcome
+
+-- The point of a turn, if it has one: that of the section, or of the thread outside of any. A switch has none.
+abbrev pub point_of : (g : Programs) (b : Board) (i : ℕ) (b' : Board) → Turn g b i b' → Option Point
+point_of g b i _ (sends c p r at an) = send.points c (b.seen i).word (hand_of b (b.queue c.to.number)) p r
+point_of g b i _ (receives c p r at an) = receive.points c (b.seen i).word (hand_of b (b.queue i)) p r
+point_of g b i _ (creates c p r at an) = create.points c (b.seen i).word (hand_of b []) p r
+point_of g b i _ (destroys c p r at an) = destroy.points c (b.seen i).word (hand_of b (b.queue (destroy_number c p))) p r
+point_of g b i _ (goes_alone p r at can an) = alone.points (id_at b i) p r
+point_of g b i _ (begins l f at e) = None
+point_of g b i _ (turns_to_work l count at e) = None
+point_of g b i _ (wakes at) = None
+point_of g b i _ (switches c p r at going an) = None
+point_of g b i _ (begins_switch c at) = None
+point_of g b i _ (ends_switch c s at) = None

@@ -1,0 +1,10 @@
+pub mod Sums
+pub mod Counted
+pub mod Spends
+pub mod Starts
+pub mod Ranges
+pub mod Gains
+pub mod Fronts
+pub mod Stands
+pub mod Inside
+pub mod Wholes

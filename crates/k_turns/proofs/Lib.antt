@@ -1,0 +1,15 @@
+pub mod Alones
+pub mod AloneSteps
+pub mod Begins
+pub mod Sends
+pub mod SendSteps
+pub mod Receives
+pub mod ReceiveSteps
+pub mod Creates
+pub mod CreateSteps
+pub mod Makes
+pub mod Placements
+pub mod Destroys
+pub mod DestroySteps
+pub mod Removals
+pub mod Comes

@@ -25,7 +25,8 @@ use Rattle.k_ipc.specs.ReceiveTable as receive
 use Rattle.k_threads.specs.CreateTable as create
 use Rattle.k_threads.specs.DestroyTable as destroy
 use Rattle.k_caller.specs.Waits as alone
-use Rattle.k_board.specs.Turns.{Turn, sends, receives, creates, destroys, goes_alone, begins, turns_to_work, wakes, switches, begins_switch, ends_switch}
+use Rattle.k_board.specs.Turns.{Turn, sends, receives, creates, destroys, goes_alone, begins}
+use Rattle.k_board.specs.Turns.{turns_to_work, wakes, switches, begins_switch, ends_switch}
 use Rattle.k_good.specs.Good.{QueuesTell}
 use Rattle.k_good.specs.Ranges.{NamesFit}
 use Rattle.k_queues.proofs.Proper.{proper_keeps}
@@ -61,7 +62,8 @@ call_fits phase.End h = tt
 pub messages_fit : (script : Script) → MessagesFit (ranged_programs script)
 messages_fit script p r f e = call_fits f (ranged_words script p r f e)
 
-module _ (script : Script) (limits : IsScript script) (b : Board) (es : List Entry) (k : KernelState) (h : BoardHolds script b es k) where
+module _ (script : Script) (limits : IsScript script) (b : Board) (es : List Entry) (k : KernelState)
+    (h : BoardHolds script b es k) where
   abbrev G : Programs
   G = ranged_programs script
 
@@ -72,11 +74,12 @@ module _ (script : Script) (limits : IsScript script) (b : Board) (es : List Ent
   tells i = queues_tell G b h.proper.good h.proper.within h.proper.queues i unanswered
 
   -- the ledger has the reply to the last call of a thread that is there
-  told_by : (who : ThreadId) → (k.place who.number).version ≡ who.version → IsTold k b.seen who
+  pub told_by : (who : ThreadId) → (k.place who.number).version ≡ who.version → IsTold k b.seen who
   told_by who v = sym (ap (λ (l : Line). l.told) (h.followed.shown.shows.lines who.number))
       ∙ ap (λ (w : ℕ). reply_to k.replies (record { number = who.number; version = w }) (k.place who.number).serial) v
 
-  given_by : (who : ThreadId) (a : Act) (at : Position) → (k.place who.number).version ≡ who.version → points.IsPlayed G (b.seen who.number) at a → IsGiven G k b.seen who a at
+  given_by : (who : ThreadId) (a : Act) (at : Position) → (k.place who.number).version ≡ who.version →
+      points.IsPlayed G (b.seen who.number) at a → IsGiven G k b.seen who a at
   given_by who (act.Call f) at v d = (told_by who v, d)
   given_by who act.Gone at v d = tt
   given_by who act.Pick at v d = tt
@@ -94,7 +97,8 @@ module _ (script : Script) (limits : IsScript script) (b : Board) (es : List Ent
   played_after b' at a r new None is same =
       subst (λ (s : ℕ → Seen). AreLedgers script (es ++ []) new s) (sym same)
       (subst (λ (l : List Entry). AreLedgers script l new (wrote b.seen a r)) (sym (append-nil es))
-      (subst (λ (q : KernelState). AreLedgers script es q (wrote b.seen a r)) (sym is) (writes_keep script es k b.seen a r h.ledgers)))
+      (subst (λ (q : KernelState). AreLedgers script es q (wrote b.seen a r)) (sym is)
+      (writes_keep script es k b.seen a r h.ledgers)))
   played_after b' at a r new (Some p) grows same =
       let e = (entry_with (lasts b) p).event in
       let gives = step_gives k new e p.outcome grows.0 in

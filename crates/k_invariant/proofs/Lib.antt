@@ -1,5 +1,5 @@
-mod Keeps
-mod Starts
-mod Runs
-mod Rests
-mod Waits
+pub mod Keeps
+pub mod Starts
+pub mod Runs
+pub mod Rests
+pub mod Waits

@@ -35,7 +35,8 @@ module _ (script : Script) (b : Board) (es : List Entry) (k : KernelState) (h : 
   facts_at n p at = subst (λ (q : At). AllSay (ranged_programs script) b n (b.context n) (facts_of q)) at (h.proper.good.places n)
 
   -- who is there waits, and not as one that picks, or its program is over
-  resting : (n : ℕ) → is_dead (b.seen n).word ≡ false → (may_wait (b.seen n).word.state ≡ true) ⊎ ((b.seen n).word.state ≡ state.Ended)
+  resting : (n : ℕ) → is_dead (b.seen n).word ≡ false → (may_wait (b.seen n).word.state ≡ true) ⊎
+      ((b.seen n).word.state ≡ state.Ended)
   resting n alive = elim (rest.places n alive) [
     | inl at ↦ elim (facts_at n (Alone location.Asleep) at).1.1.0 [
       | inl dead ↦ absurd (false≢true (sym alive ∙ dead))
@@ -57,7 +58,9 @@ module _ (script : Script) (b : Board) (es : List Entry) (k : KernelState) (h : 
   ]
 
   status_is : (n : ℕ) → (k.place n).status ≡ shows (b.seen n).word.state
-  status_is n = ap (λ (l : Line). l.status) (h.followed.shown.shows.lines n) ∙ ap (λ (o : Option ℕ). status_by (excepted_by o b.context n) (b.seen n).word.state) (rest.owner n)
+  status_is n =
+      ap (λ (l : Line). l.status) (h.followed.shown.shows.lines n)
+      ∙ ap (λ (o : Option ℕ). status_by (excepted_by o b.context n) (b.seen n).word.state) (rest.owner n)
 
   there : (id : ThreadId) → is_present_in (b.seen id.number).word id ≡ true → is_present k id ≡ true
   there id p = present_is b k h.followed.shown.shows.lines id ∙ p

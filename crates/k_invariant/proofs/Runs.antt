@@ -13,7 +13,8 @@ use Rattle.k_invariant.proofs.Keeps.{goes_on}
 use Rattle.k_invariant.proofs.Starts.{board_starts}
 
 module _ (script : Script) (limits : IsScript script) where
-  pub run_holds : (b : Board) → IsOpeningBoard script b → (es : List Entry) (b' : Board) → Run (ranged_programs script) b es b' → (k : KernelState) × BoardHolds script b' es k
+  pub run_holds : (b : Board) → IsOpeningBoard script b → (es : List Entry) (b' : Board) → Run (ranged_programs script) b es b' →
+      (k : KernelState) × BoardHolds script b' es k
   run_holds b start _ _ stays = (opened_for script, board_starts script limits b start)
   run_holds b start _ _ (turns es m i b' run t) =
       let before = run_holds b start es m run in

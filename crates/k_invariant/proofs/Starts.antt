@@ -19,13 +19,17 @@ use Rattle.k_plays.proofs.Tables.{ranged_are}
 use Rattle.k_invariant.specs.Invariant.{BoardHolds, IsOpeningBoard}
 
 module _ (script : Script) (limits : IsScript script) (b : Board) (h : IsOpeningBoard script b) where
-  same_place : (n : ℕ) → opening_place b.numbers.versions (length script.threads) n ≡ opening_place script.aged (length script.threads) n
+  same_place : (n : ℕ) → opening_place b.numbers.versions (length script.threads) n ≡
+      opening_place script.aged (length script.threads) n
   same_place n =
       let lengths : length b.numbers.versions ≡ length script.aged = h.first.count ∙ h.size ∙ sym limits.numbered in
-      ap (λ (l : ℕ). cond (not (nat_lt n l)) nowhere (cond (nat_lt n (length script.threads)) new_place (dead_place (slice_index_or b.numbers.versions n 0)))) lengths
+      ap (λ (l : ℕ). cond (not (nat_lt n l)) nowhere (cond (nat_lt n (length script.threads)) new_place
+      (dead_place (slice_index_or b.numbers.versions n 0)))) lengths
       ∙ ap (λ (p : Place). cond (not (nat_lt n (length script.aged))) nowhere p) (tail (nat_lt n (length script.threads)) refl)
     where
-      tail : (q : Bool) → nat_lt n (length script.threads) ≡ q → cond q new_place (dead_place (slice_index_or b.numbers.versions n 0)) ≡ cond q new_place (dead_place (slice_index_or script.aged n 0))
+      tail : (q : Bool) → nat_lt n (length script.threads) ≡ q →
+          cond q new_place (dead_place (slice_index_or b.numbers.versions n 0)) ≡
+          cond q new_place (dead_place (slice_index_or script.aged n 0))
       tail true e = refl
       tail false e = let later : length script.threads ≤ n = grind (arith, nat_tests, e) in ap dead_place (h.aged n later)
 
@@ -39,12 +43,18 @@ module _ (script : Script) (limits : IsScript script) (b : Board) (h : IsOpening
 
   pub board_starts : BoardHolds script b [] (opened_for script)
   board_starts =
-      let f = first_followed (ranged_programs script) b (length script.threads) h.first.booted h.first.free h.first.empty h.first.agree h.first.count h.first.few h.first.who h.first.unused in
+      let f = first_followed (ranged_programs script) b
+      (length script.threads) h.first.booted h.first.free h.first.empty h.first.agree h.first.count h.first.few h.first.who
+      h.first.unused in
       record {
         size = h.size;
-        proper = proper_start (ranged_programs script) b h.first.booted h.first.free h.first.agree h.first.count inside h.first.empty (subst (λ (s : ℕ). s ≤ 64) (sym h.size) limits.table.1);
+        proper =
+            proper_start (ranged_programs script) b h.first.booted h.first.free h.first.agree h.first.count inside h.first.empty
+            (subst (λ (s : ℕ). s ≤ 64) (sym h.size) limits.table.1);
         partners = partners_start (ranged_programs script) b h.first.booted;
         messages = f.1;
         followed = subst (IsFollowed b) same_opening f.0;
-        ledgers = starts_played script (ranged_programs script) b.seen limits (ranged_are script) h.programs (λ t l. (h.within t l, h.filled t l));
+        ledgers =
+            starts_played script (ranged_programs script) b.seen limits (ranged_are script) h.programs
+            (λ t l. (h.within t l, h.filled t l));
       }

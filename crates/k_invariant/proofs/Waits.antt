@@ -20,7 +20,7 @@ module _ (script : Script) (limits : IsScript script) where
       let g = goes_on script limits b h.entries h.state h.holds i b' t in
       record { entries = _; state = g.new; holds = g.holds }
 
-  entered : (b : Board) → Holds script b → (t n : ℕ) → stands n (b.queue t) ≡ true → (n < b.size) × (n ≢ t)
+  pub entered : (b : Board) → Holds script b → (t n : ℕ) → stands n (b.queue t) ≡ true → (n < b.size) × (n ≢ t)
   entered b h t n s = go (entry_of n (b.queue t)) refl
     where
       go : (o : Option SenderEntry) → entry_of n (b.queue t) ≡ o → (n < b.size) × (n ≢ t)

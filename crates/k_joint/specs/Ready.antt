@@ -17,9 +17,9 @@ abbrev pub IsCounted : ContextSeen → Type 0
 IsCounted (Thread t) = t.serial < 2 ^ 32 - 1
 IsCounted (Carrier k) = Unit {0}
 
--- What is taken for granted of a board, and of this context of this number in a carrier's hand: the facts of its location hold, and
--- locks name contexts by their locations, as of each good board; its thread is made; the context is sound, and its step can be
--- asked for, as a carrier sees to it; its serial can be counted; and what its step writes has a spelling.
+-- What is taken for granted of a board, and of this context of this number in a carrier's hand: the facts of its location
+-- hold, and locks name contexts by their locations, as of each good board; its thread is made; the context is sound, and its
+-- step can be asked for, as a carrier sees to it; its serial can be counted; and what its step writes has a spelling.
 pub record IsReady (script : Script) (b : Board) (i : ℕ) (v : ContextSeen) : Type 0 where
   pub facts : AllSay (programs_of script) b i (b.context i) (facts_of (b.context i).at)
   pub locks : LocksHold b.owner b.table b.ready b.context

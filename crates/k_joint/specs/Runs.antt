@@ -19,8 +19,8 @@ acting (Take n bits) = n
 
 -- The world shows a board to which one turn of this context leads, or two, or none.
 pub record ShowsLater (script : Script) (b : Board) (i : ℕ) (w : World) : Type 0 where
-  pub count : ℕ
-  pub few : count ≤ 2
+  pub count : ℕ  -- of turns
+  pub few : count ≤ 2  -- it begins its next call, and makes a step
   pub board : Board
   pub turns : Turns (programs_of script) i count b board
   pub shows : ShowsBoard script w board

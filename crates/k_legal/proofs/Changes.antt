@@ -1,5 +1,6 @@
 -- The entries that wait, where one word becomes a sender's, or is one no more.
-use Rattle.std.proofs.Common.{◌≡◌, ◌≢◌, ℕ, Bool, true, false, cond, not, eqb, ◌&&◌, refl, sym, ap, ◌∙◌, List, [], ◌∷◌, ◌++◌, map, arith}
+use Rattle.std.proofs.Common.{◌≡◌, ◌≢◌, ℕ, Bool, true, false, cond, not, eqb, ◌&&◌}
+use Rattle.std.proofs.Common.{refl, sym, ap, ◌∙◌, List, [], ◌∷◌, ◌++◌, map, arith}
 use Rattle.std.specs.Prelude.{◌==◌}
 use Rattle.std.specs.List.{filter}
 use Rattle.std.proofs.lemmas.Bool.{eq-eqb}
@@ -57,7 +58,8 @@ module _ (to : ThreadId) (s s' : ℕ → Seen) where
       ∙ step (test s e) (apart_waiters m h es rest)
     where
       step : (w : Bool) → waiters_in to s' es ≡ waiters_in to s es →
-          map waiting_of (cond w (e ∷ filter (test s') es) (filter (test s') es)) ≡ map waiting_of (cond w (e ∷ filter (test s) es) (filter (test s) es))
+          map waiting_of (cond w (e ∷ filter (test s') es) (filter (test s') es)) ≡
+          map waiting_of (cond w (e ∷ filter (test s) es) (filter (test s) es))
       step true q = ap (λ (ws : List Waiting). waiting_of e ∷ ws) q
       step false q = q
 
@@ -70,12 +72,15 @@ module _ (to : ThreadId) (s s' : ℕ → Seen) where
       ∙ step (test s e) (dropped_waiters drops h es)
     where
       kept : (x : Bool) → waiters_in to s' es ≡ filter (λ w. not (drops w)) (waiters_in to s es) →
-          map waiting_of (cond x (e ∷ filter (test s') es) (filter (test s') es)) ≡ cond x (waiting_of e ∷ filter (λ w. not (drops w)) (waiters_in to s es)) (filter (λ w. not (drops w)) (waiters_in to s es))
+          map waiting_of (cond x (e ∷ filter (test s') es) (filter (test s') es)) ≡
+          cond x (waiting_of e ∷ filter (λ w. not (drops w)) (waiters_in to s es))
+          (filter (λ w. not (drops w)) (waiters_in to s es))
       kept true q = ap (λ (ws : List Waiting). waiting_of e ∷ ws) q
       kept false q = q
 
       step : (w : Bool) → waiters_in to s' es ≡ filter (λ w. not (drops w)) (waiters_in to s es) →
-          map waiting_of (cond (w && not (drops (waiting_of e))) (e ∷ filter (test s') es) (filter (test s') es)) ≡ filter (λ w. not (drops w)) (map waiting_of (cond w (e ∷ filter (test s) es) (filter (test s) es)))
+          map waiting_of (cond (w && not (drops (waiting_of e))) (e ∷ filter (test s') es) (filter (test s') es)) ≡
+          filter (λ w. not (drops w)) (map waiting_of (cond w (e ∷ filter (test s) es) (filter (test s) es)))
       step true q = kept (not (drops (waiting_of e))) q
       step false q = q
 
@@ -85,7 +90,10 @@ module _ (to : ThreadId) (s : ℕ → Seen) where
   append_waiters (e ∷ es) fs = go (waits_for to e (s (number_of e)).word) (append_waiters es fs)
     where
       go : (w : Bool) → waiters_in to s (es ++ fs) ≡ waiters_in to s es ++ waiters_in to s fs →
-          map waiting_of (cond w (e ∷ filter (λ f. waits_for to f (s (number_of f)).word) (es ++ fs)) (filter (λ f. waits_for to f (s (number_of f)).word) (es ++ fs))) ≡ map waiting_of (cond w (e ∷ filter (λ f. waits_for to f (s (number_of f)).word) es) (filter (λ f. waits_for to f (s (number_of f)).word) es)) ++ waiters_in to s fs
+          map waiting_of (cond w (e ∷ filter (λ f. waits_for to f (s (number_of f)).word) (es ++ fs))
+          (filter (λ f. waits_for to f (s (number_of f)).word) (es ++ fs))) ≡
+          map waiting_of (cond w (e ∷ filter (λ f. waits_for to f (s (number_of f)).word) es)
+          (filter (λ f. waits_for to f (s (number_of f)).word) es)) ++ waiters_in to s fs
       go true q = ap (λ (ws : List Waiting). waiting_of e ∷ ws) q
       go false q = q
 
@@ -95,15 +103,18 @@ module _ (to : ThreadId) (s : ℕ → Seen) where
 module _ (b b' : Board) (n : ℕ) where
   pub waiters_change : (f : List Waiting → List Waiting) → (is_dead (b.seen n).word ≡ true → f [] ≡ []) →
       is_dead (b'.seen n).word ≡ is_dead (b.seen n).word → (b'.seen n).word.version ≡ (b.seen n).word.version →
-      (is_dead (b.seen n).word ≡ false → waiters_in (id_at b n) b'.seen (entries_by b'.queue b'.owner b'.context n) ≡ f (waiters_in (id_at b n) b.seen (entries_by b.queue b.owner b.context n))) →
+      (is_dead (b.seen n).word ≡ false → waiters_in (id_at b n) b'.seen (entries_by b'.queue b'.owner b'.context n) ≡
+      f (waiters_in (id_at b n) b.seen (entries_by b.queue b.owner b.context n))) →
       waiters b' n ≡ f (waiters b n)
   waiters_change f none dead version same =
       ap (λ (d : Bool). cond d [] (waiters_in (id_at b' n) b'.seen (entries_by b'.queue b'.owner b'.context n))) dead
       ∙ go (is_dead (b.seen n).word) refl
     where
       go : (d : Bool) → is_dead (b.seen n).word ≡ d →
-          cond d [] (waiters_in (id_at b' n) b'.seen (entries_by b'.queue b'.owner b'.context n)) ≡ f (cond d [] (waiters_in (id_at b n) b.seen (entries_by b.queue b.owner b.context n)))
+          cond d [] (waiters_in (id_at b' n) b'.seen (entries_by b'.queue b'.owner b'.context n)) ≡
+          f (cond d [] (waiters_in (id_at b n) b.seen (entries_by b.queue b.owner b.context n)))
       go true e = sym (none e)
       go false e =
-          ap (λ (v : ℕ). waiters_in (record { number = n; version = v }) b'.seen (entries_by b'.queue b'.owner b'.context n)) version
+          ap (λ (v : ℕ). waiters_in (record { number = n; version = v }) b'.seen
+          (entries_by b'.queue b'.owner b'.context n)) version
           ∙ same e

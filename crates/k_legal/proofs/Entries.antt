@@ -1,5 +1,6 @@
 -- The entries of a queue that wait, over a step: which words tell the same, and what becomes of the list where an entry goes.
-use Rattle.std.proofs.Common.{◌≡◌, ◌≢◌, ℕ, Bool, true, false, cond, ◌&&◌, eqb, refl, sym, ap, ◌∙◌, subst, List, [], ◌∷◌, map, Option, Some, None, arith, inl, inr}
+use Rattle.std.proofs.Common.{◌≡◌, ◌≢◌, ℕ, Bool, true, false, cond, ◌&&◌, eqb, refl, sym, ap, ◌∙◌}
+use Rattle.std.proofs.Common.{subst, List, [], ◌∷◌, map, Option, Some, None, arith, inl, inr}
 use Rattle.std.specs.List.{filter}
 use Rattle.std.specs.Prelude.{◌==◌}
 use Rattle.std.proofs.lemmas.Bool.{eqb-true}
@@ -40,7 +41,8 @@ tested test p q h (e ∷ es) = go (p e) (test (waiting_of e)) refl refl (h e) (t
   where
     go : (a d : Bool) → p e ≡ a → test (waiting_of e) ≡ d → q e ≡ (p e && test (waiting_of e)) →
         filter test (map waiting_of (filter p es)) ≡ map waiting_of (filter q es) →
-        filter test (map waiting_of (cond (p e) (e ∷ filter p es) (filter p es))) ≡ map waiting_of (cond (q e) (e ∷ filter q es) (filter q es))
+        filter test (map waiting_of (cond (p e) (e ∷ filter p es) (filter p es))) ≡
+        map waiting_of (cond (q e) (e ∷ filter q es) (filter q es))
     go false d f t k r = rw (f, k) (rw f r)
     go true false f t k r = rw (f, k) (rw (f, t) r)
     go true true f t k r = rw (f, k) (rw (f, t) (ap (λ (ws : List Waiting). waiting_of e ∷ ws) r))
@@ -53,7 +55,9 @@ none_left p h (e ∷ es) = rw (h e) (none_left p h es)
 pub left_but : (p q : SenderEntry → Bool) (n : ℕ) → ((e : SenderEntry) → number_of e ≢ n → q e ≡ p e) → (es : List SenderEntry) →
     stands n es ≡ false → filter q es ≡ filter p es
 left_but p q n h [] s = refl
-left_but p q n h (e ∷ es) s = rw (h e (λ d. grind (arith, nat_tests))) (ap (λ (fs : List SenderEntry). cond (p e) (e ∷ fs) fs) (left_but p q n h es (grind (arith, nat_tests))))
+left_but p q n h (e ∷ es) s =
+    rw (h e (λ d. grind (arith, nat_tests))) (ap (λ (fs : List SenderEntry). cond (p e) (e ∷ fs) fs)
+    (left_but p q n h es (grind (arith, nat_tests))))
 
 -- an entry that doesn't pass goes
 pub left_without : (p : SenderEntry → Bool) (n : ℕ) (f : SenderEntry) → p f ≡ false → (es : List SenderEntry) →
@@ -89,7 +93,11 @@ pub record Alike (w u : StateWord) : Type 0 where
   pub sends : (to : ThreadId) → sends_to to u.state ≡ sends_to to w.state
 
 pub alike_is : (w u : StateWord) → u ≡ w → Alike w u
-alike_is w u e = record { version = ap (λ (v : StateWord). v.version) e; dead = ap is_dead e; sends = λ to. ap (λ (v : StateWord). sends_to to v.state) e }
+alike_is w u e = record {
+  version = ap (λ (v : StateWord). v.version) e;
+  dead = ap is_dead e;
+  sends = λ to. ap (λ (v : StateWord). sends_to to v.state) e;
+}
 
 -- whether a thread of this state is there, and waits not to send
 abbrev pub is_calm : State → Bool
@@ -112,7 +120,11 @@ calm_there : (w : StateWord) → is_calm w.state ≡ true → is_dead w ≡ fals
 calm_there w c = grind (arith)
 
 pub calm_alike : (w u : StateWord) → u.version ≡ w.version → is_calm w.state ≡ true → is_calm u.state ≡ true → Alike w u
-calm_alike w u v c d = record { version = v; dead = calm_there u d ∙ sym (calm_there w c); sends = λ to. calm_sends u.state to d ∙ sym (calm_sends w.state to c) }
+calm_alike w u v c d = record {
+  version = v;
+  dead = calm_there u d ∙ sym (calm_there w c);
+  sends = λ to. calm_sends u.state to d ∙ sym (calm_sends w.state to c);
+}
 
 -- an exchange that is won writes a word that tells the same
 abbrev pub IsPlain : Ask → Response → Type 0
@@ -121,10 +133,16 @@ IsPlain a r = Unit {0}
 
 pub plain_words : (g : Programs) (b : Board) (at : Position) (p : Option Point) (a : Ask) (r : Response) → Answers b a r →
     IsPlain a r → (t : ℕ) → Alike (b.seen t).word (wrote (noted g b.seen at p) a r t).word
-plain_words g b at p a r an q t = elim (word_after g b at p a r an t) [ inl e ↦ alike_is (b.seen t).word (wrote (noted g b.seen at p) a r t).word e | inr i ↦ written (wrote (noted g b.seen at p) a r t).word i ]
+plain_words g b at p a r an q t =
+    elim (word_after g b at p a r an t) [
+      | inl e ↦ alike_is (b.seen t).word (wrote (noted g b.seen at p) a r t).word e
+      | inr i ↦ written (wrote (noted g b.seen at p) a r t).word i
+    ]
   where
     written : (w : StateWord) → IsWritten b a r t w → Alike (b.seen t).word w
-    written w i = subst (λ (u : StateWord). Alike u w) (sym i.was) (subst (IsPlain (asks.Exchange t i.old w)) i.won (subst (λ (c : Ask). IsPlain c r) i.asked q))
+    written w i =
+        subst (λ (u : StateWord). Alike u w) (sym i.was) (subst (IsPlain (asks.Exchange t i.old w)) i.won
+        (subst (λ (c : Ask). IsPlain c r) i.asked q))
 
 -- WHO IS ABOUT TO COME
 
@@ -133,7 +151,9 @@ SameComing c d = (j n : ℕ) → coming_at (d j).at n ≡ coming_at (c j).at n
 
 pub moved_comes : (c : ℕ → Context) (i : ℕ) (x : Context) → ((n : ℕ) → coming_at x.at n ≡ coming_at (c i).at n) →
     SameComing c (upd c i x)
-moved_comes c i x e j n = upd_cases (λ (y : Context). coming_at y.at n ≡ coming_at (c j).at n) c i x j (λ q. e n ∙ ap (λ (m : ℕ). coming_at (c m).at n) (sym q)) (λ _. refl)
+moved_comes c i x e j n =
+    upd_cases (λ (y : Context). coming_at y.at n ≡ coming_at (c j).at n) c i x j
+    (λ q. e n ∙ ap (λ (m : ℕ). coming_at (c m).at n) (sym q)) (λ _. refl)
 
 pub both_come : (c : ℕ → Context) (m i : ℕ) (y x : Context) → ((n : ℕ) → coming_at y.at n ≡ coming_at (c m).at n) →
     ((n : ℕ) → coming_at x.at n ≡ coming_at (c i).at n) → SameComing c (upd (upd c m y) i x)
@@ -146,8 +166,12 @@ comes_still c d same (Some j) n = same j n
 -- a context from which no entry is about to come takes or releases a lock
 pub owned_comes : (c d : ℕ → Context) → SameComing c d → (i : ℕ) → ((n : ℕ) → coming_at (c i).at n ≡ []) →
     (o : ℕ → Option ℕ) (a : Ask) (r : Response) → Owns o i a r → (n : ℕ) → coming_by (owned o i a r n) d n ≡ coming_by (o n) c n
-owned_comes c d same i none o (asks.Acquire (lock.Thread m)) asks.Got free n = upd_cases (λ (x : Option ℕ). coming_by x d n ≡ coming_by (o n) c n) o m (Some i) n (λ q. same i n ∙ none n ∙ sym (ap (λ (x : Option ℕ). coming_by x c n) (ap o q ∙ free))) (λ _. comes_still c d same (o n) n)
-owned_comes c d same i none o (asks.Release (lock.Thread m)) asks.Released mine n = upd_cases (λ (x : Option ℕ). coming_by x d n ≡ coming_by (o n) c n) o m None n (λ q. sym (ap (λ (x : Option ℕ). coming_by x c n) (ap o q ∙ mine) ∙ none n)) (λ _. comes_still c d same (o n) n)
+owned_comes c d same i none o (asks.Acquire (lock.Thread m)) asks.Got free n =
+    upd_cases (λ (x : Option ℕ). coming_by x d n ≡ coming_by (o n) c n) o m (Some i) n
+    (λ q. same i n ∙ none n ∙ sym (ap (λ (x : Option ℕ). coming_by x c n) (ap o q ∙ free))) (λ _. comes_still c d same (o n) n)
+owned_comes c d same i none o (asks.Release (lock.Thread m)) asks.Released mine n =
+    upd_cases (λ (x : Option ℕ). coming_by x d n ≡ coming_by (o n) c n) o m None n
+    (λ q. sym (ap (λ (x : Option ℕ). coming_by x c n) (ap o q ∙ mine) ∙ none n)) (λ _. comes_still c d same (o n) n)
 owned_comes c d same i none o a r h n = comes_still c d same (o n) n
 
 -- the context of a number that owns no lock is removed
@@ -157,7 +181,10 @@ pub removed_comes : (c : ℕ → Context) (m i : ℕ) (y x : Context) → ((n : 
 removed_comes c m i y x ex none o free n = by (o n) refl
   where
     at : (j : ℕ) → j ≢ m → coming_at (upd (upd c m y) i x j).at n ≡ coming_at (c j).at n
-    at j ne = upd_cases (λ (z : Context). coming_at z.at n ≡ coming_at (c j).at n) (upd c m y) i x j (λ q. ex n ∙ sym (ap (λ (a : ℕ). coming_at (c a).at n) q ∙ none n)) (λ _. ap (λ (z : Context). coming_at z.at n) (upd_other c m y j ne))
+    at j ne =
+        upd_cases (λ (z : Context). coming_at z.at n ≡ coming_at (c j).at n) (upd c m y) i x j
+        (λ q. ex n ∙ sym (ap (λ (a : ℕ). coming_at (c a).at n) q ∙ none n))
+        (λ _. ap (λ (z : Context). coming_at z.at n) (upd_other c m y j ne))
 
     by : (a : Option ℕ) → o n ≡ a → coming_by a (upd (upd c m y) i x) n ≡ coming_by a c n
     by None e = refl
@@ -182,7 +209,10 @@ module _ (b b' : Board) (words : (t : ℕ) → Alike (b.seen t).word (b'.seen t)
   pub waits_same : (n : ℕ) (e : SenderEntry) → waits b' n e ≡ waits b n e
   waits_same n e =
       let w = words (number_of e) in
-      let sends : sends_to (id_at b' n) (b'.seen (number_of e)).word.state ≡ sends_to (id_at b n) (b.seen (number_of e)).word.state = w.sends (id_at b' n) ∙ ap (λ (v : ℕ). sends_to (record { number = n; version = v }) (b.seen (number_of e)).word.state) (words n).version in
+      let sends : sends_to (id_at b' n) (b'.seen (number_of e)).word.state ≡
+      sends_to (id_at b n) (b.seen (number_of e)).word.state =
+      w.sends (id_at b' n) ∙ ap (λ (v : ℕ). sends_to (record { number = n; version = v }) (b.seen (number_of e)).word.state)
+      (words n).version in
       λ d. eqb (w.version d) (sender_of e).version && sends d
 
   -- the words tell the same, and the entries that wait stay

@@ -31,7 +31,8 @@ use Rattle.k_board.specs.Words.{Programs}
 use Rattle.k_board.specs.Boards.{Board, Context}
 use Rattle.k_board.specs.Boots.{Booted, has_carrier, has_none, has_thread}
 use Rattle.k_board.specs.Steps.{after, begun_at, create_at, create_contexts, destroy_at, destroy_contexts, receive_at, send_at}
-use Rattle.k_board.specs.Turns.{Turn, sends, receives, creates, destroys, goes_alone, begins, turns_to_work, wakes, switches, begins_switch, ends_switch}
+use Rattle.k_board.specs.Turns.{Turn, sends, receives, creates, destroys, goes_alone, begins}
+use Rattle.k_board.specs.Turns.{turns_to_work, wakes, switches, begins_switch, ends_switch}
 use Rattle.k_legal.specs.Waiting.{FitsCall, FitsSend, IsMessage, MessagesFit, MessagesHold}
 
 after_fits : (me : ThreadId) (w : Went) → FitsSend (after me w)
@@ -86,10 +87,13 @@ pub messages_keep : (g : Programs) (b : Board) (i : ℕ) (b' : Board) → Messag
     MessagesHold b'.context
 messages_keep g b i _ fit m (sends c p r at an) = moved_fits b.context i _ (send_fits c _ (subst FitsSend at (m i))) m
 messages_keep g b i _ fit m (receives c p r at an) = moved_fits b.context i _ (receive_fits c _) m
-messages_keep g b i _ fit m (creates c p r at an) = moved_fits (create_contexts g c p r b.context) i _ (create_fits c _) (created_fit g c p r b.context m)
-messages_keep g b i _ fit m (destroys c p r at an) = moved_fits (destroy_contexts c p r b.context) i _ (destroy_fits c _) (destroyed_fit c p r b.context m)
+messages_keep g b i _ fit m (creates c p r at an) =
+    moved_fits (create_contexts g c p r b.context) i _ (create_fits c _) (created_fit g c p r b.context m)
+messages_keep g b i _ fit m (destroys c p r at an) =
+    moved_fits (destroy_contexts c p r b.context) i _ (destroy_fits c _) (destroyed_fit c p r b.context m)
 messages_keep g b i _ fit m (goes_alone p r at can an) = moved_fits b.context i _ tt m
-messages_keep g b i _ fit m (begins l f at e) = moved_fits b.context i _ (begun_fits b.size _ f (fit (b.context i).position l f e)) m
+messages_keep g b i _ fit m (begins l f at e) =
+    moved_fits b.context i _ (begun_fits b.size _ f (fit (b.context i).position l f e)) m
 messages_keep g b i _ fit m (turns_to_work l count at e) = moved_fits b.context i _ tt m
 messages_keep g b i _ fit m (wakes at) = moved_fits b.context i _ tt m
 messages_keep g b i _ fit m (switches c p r at going an) = moved_fits b.context i _ tt m

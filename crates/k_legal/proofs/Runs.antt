@@ -73,7 +73,8 @@ first_lawful g b threads h small =
 
 pub grown_replay : (g : Programs) (m b' : Board) (old k new : KernelState) (es : List Entry) (p : Option Point) →
     IsReplay old es k → Grows g m k p new b' → IsReplay old (es ++ entries_of m p) new
-grown_replay g m b' old k new es None r is = subst (λ (fs : List Entry). IsReplay old fs new) (sym (append-nil es)) (subst (IsReplay old es) (sym is) r)
+grown_replay g m b' old k new es None r is =
+    subst (λ (fs : List Entry). IsReplay old fs new) (sym (append-nil es)) (subst (IsReplay old es) (sym is) r)
 grown_replay g m b' old k new es (Some p) r h = replay_push old k new es (entry_with (lasts m) p) r h.0
 
 -- a run from a lawful board ends on one, of the same size, and its history is legal

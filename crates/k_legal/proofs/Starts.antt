@@ -28,7 +28,9 @@ nobody true ws e = refl
 nobody false ws e = e
 
 nobody_waits : (b : Board) (n : ℕ) → b.owner n ≡ None → b.queue n ≡ [] → waiters b n ≡ []
-nobody_waits b n o q = nobody (is_dead (b.seen n).word) _ (ap (waiters_in (id_at b n) b.seen) (ap (λ (a : Option ℕ). b.queue n ++ coming_by a b.context n) o ∙ ap (λ (es : List SenderEntry). es ++ []) q))
+nobody_waits b n o q =
+    nobody (is_dead (b.seen n).word) _ (ap (waiters_in (id_at b n) b.seen)
+    (ap (λ (a : Option ℕ). b.queue n ++ coming_by a b.context n) o ∙ ap (λ (es : List SenderEntry). es ++ []) q))
 
 pub first_followed : (g : Programs) (b : Board) (threads : ℕ) → ((n : ℕ) → Booted g b n) → ((l : Lock) → owner_of b l ≡ None) →
     ((n : ℕ) → b.queue n ≡ []) → NumbersAgree b.seen b.numbers b.context → length b.numbers.versions ≡ b.size → threads ≤ b.size →

@@ -27,7 +27,8 @@ use Rattle.k_board.specs.Boards.{At, Board, InCreate, InDestroy, InReceive, InSe
 use Rattle.k_board.specs.Facts.{AllSay}
 use Rattle.k_board.specs.Places.{facts_of}
 use Rattle.k_board.specs.Steps.{Answers, create_board, destroy_board, destroy_number, receive_board, send_board}
-use Rattle.k_board.specs.Turns.{Turn, sends, receives, creates, destroys, goes_alone, begins, turns_to_work, wakes, switches, begins_switch, ends_switch}
+use Rattle.k_board.specs.Turns.{Turn, sends, receives, creates, destroys, goes_alone, begins}
+use Rattle.k_board.specs.Turns.{turns_to_work, wakes, switches, begins_switch, ends_switch}
 use Rattle.k_board.proofs.Goes.{create_me, destroy_me, receive_me, send_me}
 use Rattle.k_good.specs.Good.{IsGood, QueuesTell}
 use Rattle.k_good.specs.Ranges.{FitsAt, IsWithin}
@@ -50,8 +51,10 @@ lists_serve b k i sh = record { own = own }
     own : (c : ReceiveCall) (p : ReceiveAt) → (b.context i).at ≡ InReceive c p → b.owner i ≡ Some i →
         is_dead (b.seen i).word ≡ false → (k.place i).waiting ≡ waiting_shown b i
     own c p at o alive =
-        let nobody : coming_by (b.owner i) b.context i ≡ [] = ap (λ (q : Option ℕ). coming_by q b.context i) o ∙ ap (λ (a : At). coming_at a i) at in
-        sh i ∙ living_waiters b i alive ∙ ap (waiters_in (id_at b i) b.seen) (ap (λ (es : List SenderEntry). b.queue i ++ es) nobody ∙ append-nil _)
+        let nobody : coming_by (b.owner i) b.context i ≡ [] =
+        ap (λ (q : Option ℕ). coming_by q b.context i) o ∙ ap (λ (a : At). coming_at a i) at in
+        sh i ∙ living_waiters b i alive ∙ ap (waiters_in (id_at b i) b.seen)
+        (ap (λ (es : List SenderEntry). b.queue i ++ es) nobody ∙ append-nil _)
 
 module _ (g : Programs) (b : Board) (k : KernelState) (good : IsGood g b) (within : IsWithin b)
     (messages : MessagesHold b.context) (few : b.size ≤ 64) (is : IsFollowed b k) (i : ℕ) (tell : QueuesTell b i) where
@@ -69,32 +72,49 @@ module _ (g : Programs) (b : Board) (k : KernelState) (good : IsGood g b) (withi
 
   send_waits : (c : SendCall) (p : SendAt) (r : Response) → (b.context i).at ≡ InSend c p →
       Answers b (send.ask_of c (b.context i).own p) r → (n : ℕ) →
-      lists_by (send.points c (b.seen i).word (hand_of b (b.queue c.to.number)) p r) (waiters b) n ≡ waiters (send_board g b i (b.context i) c p r) n
+      lists_by (send.points c (b.seen i).word (hand_of b (b.queue c.to.number)) p r) (waiters b) n ≡
+      waiters (send_board g b i (b.context i) c p r) n
   send_waits c p r at a n =
-      subst (λ (j : ℕ). QueuesTell b j → (b.context j).at ≡ InSend c p → Answers b (send.ask_of c (b.context j).own p) r → lists_by (send.points c (b.seen j).word (hand_of b (b.queue c.to.number)) p r) (waiters b) n ≡ waiters (send_board g b j (b.context j) c p r) n) (send_me g b i (b.context i) c p (facts_at i (InSend c p) at))
-      (λ tell here a. send_lists g b c good within messages few tell p r here a (facts_at c.caller.number (InSend c p) here) n) tell at a
+      subst (λ (j : ℕ). QueuesTell b j → (b.context j).at ≡ InSend c p → Answers b (send.ask_of c (b.context j).own p) r →
+      lists_by (send.points c (b.seen j).word (hand_of b (b.queue c.to.number)) p r) (waiters b) n ≡
+      waiters (send_board g b j (b.context j) c p r) n) (send_me g b i (b.context i) c p (facts_at i (InSend c p) at))
+      (λ tell here a. send_lists g b c good within messages few tell p r here a
+      (facts_at c.caller.number (InSend c p) here) n) tell at a
 
   receive_waits : (c : ReceiveCall) (p : ReceiveAt) (r : Response) → (b.context i).at ≡ InReceive c p →
       Answers b (receive.ask_of c (b.context i).own p) r → (n : ℕ) →
-      lists_by (receive.points c (b.seen i).word (hand_of b (b.queue i)) p r) (waiters b) n ≡ waiters (receive_board g b i (b.context i) c p r) n
+      lists_by (receive.points c (b.seen i).word (hand_of b (b.queue i)) p r) (waiters b) n ≡
+      waiters (receive_board g b i (b.context i) c p r) n
   receive_waits c p r at a n =
-      subst (λ (j : ℕ). (b.context j).at ≡ InReceive c p → Answers b (receive.ask_of c (b.context j).own p) r → lists_by (receive.points c (b.seen j).word (hand_of b (b.queue j)) p r) (waiters b) n ≡ waiters (receive_board g b j (b.context j) c p r) n) (receive_me g b i (b.context i) c p (facts_at i (InReceive c p) at))
+      subst (λ (j : ℕ). (b.context j).at ≡ InReceive c p → Answers b (receive.ask_of c (b.context j).own p) r →
+      lists_by (receive.points c (b.seen j).word (hand_of b (b.queue j)) p r) (waiters b) n ≡
+      waiters (receive_board g b j (b.context j) c p r) n)
+      (receive_me g b i (b.context i) c p (facts_at i (InReceive c p) at))
       (λ here a. receive_lists g b c p r here a (facts_at c.caller.number (InReceive c p) here) n) at a
 
   creates_waits : (c : CreateCall) (p : CreateAt) (r : Response) → (b.context i).at ≡ InCreate c p →
       Answers b (create.ask_of c (b.context i).own p) r → (n : ℕ) →
-      lists_by (create.points c (b.seen i).word (hand_of b []) p r) (waiters b) n ≡ waiters (create_board g b i (b.context i) c p r) n
+      lists_by (create.points c (b.seen i).word (hand_of b []) p r) (waiters b) n ≡
+      waiters (create_board g b i (b.context i) c p r) n
   creates_waits c p r at a n =
-      subst (λ (j : ℕ). (b.context j).at ≡ InCreate c p → Answers b (create.ask_of c (b.context j).own p) r → lists_by (create.points c (b.seen j).word (hand_of b []) p r) (waiters b) n ≡ waiters (create_board g b j (b.context j) c p r) n) (create_me g b i (b.context i) c p (facts_at i (InCreate c p) at))
-      (λ here a. create_waits g b c (known_by b k is.shown.shows.lines is.listed) p r here a (facts_at c.caller.number (InCreate c p) here) n) at a
+      subst (λ (j : ℕ). (b.context j).at ≡ InCreate c p → Answers b (create.ask_of c (b.context j).own p) r →
+      lists_by (create.points c (b.seen j).word (hand_of b []) p r) (waiters b) n ≡
+      waiters (create_board g b j (b.context j) c p r) n) (create_me g b i (b.context i) c p (facts_at i (InCreate c p) at))
+      (λ here a. create_waits g b c (known_by b k is.shown.shows.lines is.listed) p r here a
+      (facts_at c.caller.number (InCreate c p) here) n) at a
 
   destroys_waits : (c : DestroyCall) (p : DestroyAt) (r : Response) → (b.context i).at ≡ InDestroy c p →
       Answers b (destroy.ask_of c (b.context i).own p) r → (n : ℕ) →
-      lists_by (destroy.points c (b.seen i).word (hand_of b (b.queue (destroy_number c p))) p r) (waiters b) n ≡ waiters (destroy_board g b i (b.context i) c p r) n
+      lists_by (destroy.points c (b.seen i).word (hand_of b (b.queue (destroy_number c p))) p r) (waiters b) n ≡
+      waiters (destroy_board g b i (b.context i) c p r) n
   destroys_waits c p r at a n =
       let who = victim c p at in
-      subst (λ (j : ℕ). (b.context j).at ≡ InDestroy c p → Answers b (destroy.ask_of c (b.context j).own p) r → lists_by (destroy.points c (b.seen j).word (hand_of b (b.queue (destroy_number c p))) p r) (waiters b) n ≡ waiters (destroy_board g b j (b.context j) c p r) n) (destroy_me g b i (b.context i) c p (facts_at i (InDestroy c p) at))
-      (λ here a. destroy_waits g b c (inside c.who.number b.size who.number few) (small c.who.version who.last) p r here a (facts_at c.caller.number (InDestroy c p) here) n) at a
+      subst (λ (j : ℕ). (b.context j).at ≡ InDestroy c p → Answers b (destroy.ask_of c (b.context j).own p) r →
+      lists_by (destroy.points c (b.seen j).word (hand_of b (b.queue (destroy_number c p))) p r) (waiters b) n ≡
+      waiters (destroy_board g b j (b.context j) c p r) n)
+      (destroy_me g b i (b.context i) c p (facts_at i (InDestroy c p) at))
+      (λ here a. destroy_waits g b c (inside c.who.number b.size who.number few) (small c.who.version who.last) p r here a
+      (facts_at c.caller.number (InDestroy c p) here) n) at a
 
   comes_at : (p : At) → (b.context i).at ≡ p → ((n : ℕ) → coming_at p n ≡ []) → (n : ℕ) → coming_at (b.context i).at n ≡ []
   comes_at p at h n = ap (λ (q : At). coming_at q n) at ∙ h n

@@ -1,5 +1,6 @@
 -- Who waits to send, over the turns of a create, of a destroy, of a thread outside of any section, and of a switch.
-use Rattle.std.proofs.Common.{◌≡◌, ◌≢◌, ℕ, ◌+◌, ◌-◌, ◌≤◌, Bool, true, false, cond, ◌&&◌, eqb, refl, sym, ap, ◌∙◌, subst, List, [], ◌++◌, map, Option, Some, None, arith, inl, inr}
+use Rattle.std.proofs.Common.{◌≡◌, ◌≢◌, ℕ, ◌+◌, ◌-◌, ◌≤◌, Bool, true, false, cond, ◌&&◌, eqb, refl, sym}
+use Rattle.std.proofs.Common.{ap, ◌∙◌, subst, List, [], ◌++◌, map, Option, Some, None, arith, inl, inr}
 use Rattle.std.specs.List.{filter}
 use Rattle.std.proofs.lemmas.Bool.{cases_eq, ne_eqb}
 use Rattle.std.proofs.lemmas.Bool.Decides.{eqb_tells}
@@ -46,10 +47,13 @@ use Rattle.k_board.specs.Turns.{excepted_by}
 use Rattle.k_good.proofs.Words.{noted_word}
 use Rattle.k_shown.specs.Memory.{waiting_of}
 use Rattle.k_board.specs.Places.{facts_alone, facts_create}
-use Rattle.k_board.specs.Steps.{Answers, after, alone_board, alone_context, begun_at, create_at, create_board, create_context, placed, switch_board, switch_context, wrote}
+use Rattle.k_board.specs.Steps.{Answers, after, alone_board, alone_context, begun_at, create_at}
+use Rattle.k_board.specs.Steps.{create_board, create_context, placed, switch_board, switch_context, wrote}
 use Rattle.k_points.specs.Shown.{Line, Tells, shown, status_by}
 use Rattle.k_legal.specs.Waiting.{coming_at, coming_by, waiters}
-use Rattle.k_legal.proofs.Entries.{SameComing, alike_is, both_come, calm_alike, comes_still, dead_waiters, entries, is_calm, living_waiters, moved_comes, none_left, owned_comes, plain_waiters, plain_words, waits, IsPlain}
+use Rattle.k_legal.proofs.Entries.{SameComing, alike_is, both_come, calm_alike, comes_still}
+use Rattle.k_legal.proofs.Entries.{dead_waiters, entries, is_calm, living_waiters, moved_comes, none_left}
+use Rattle.k_legal.proofs.Entries.{owned_comes, plain_waiters, plain_words, waits, IsPlain}
 use Rattle.k_points.proofs.Exceptions.{Owns}
 use Rattle.k_legal.proofs.ListRows.{lists_by}
 use Rattle.k_points.proofs.Status.{closed_status}
@@ -127,12 +131,15 @@ both_left p q es fs h e = λ d. filter (λ f. h f d) (e d)
 -- WHO WAITS, WAITS FOR A THREAD THAT THE NUMBER HAS OR HAD
 
 abbrev pub Known : Board → Type 0
-Known b = (t : ℕ) (to : ThreadId) (joined : Bool) → (b.seen t).word.state ≡ state.Sending to joined → to.version ≤ (b.seen to.number).word.version
+Known b =
+    (t : ℕ) (to : ThreadId) (joined : Bool) → (b.seen t).word.state ≡ state.Sending to joined →
+    to.version ≤ (b.seen to.number).word.version
 
 pub known_by : (b : Board) (k : KernelState) → Tells k (shown b) → IsListed k → Known b
 known_by b k sh l t to joined e =
     subst (λ (v : ℕ). to.version ≤ v) (ap (λ (u : Line). u.version) (sh to.number))
-    (l.known t to (ap (λ (u : Line). u.status) (sh t) ∙ ap (status_by (excepted_by (b.owner t) b.context t)) e ∙ closed_status (excepted_by (b.owner t) b.context t) (state.Sending to joined) refl))
+    (l.known t to (ap (λ (u : Line). u.status) (sh t) ∙ ap (status_by (excepted_by (b.owner t) b.context t)) e
+    ∙ closed_status (excepted_by (b.owner t) b.context t) (state.Sending to joined) refl))
 
 -- A CREATE
 
@@ -159,27 +166,50 @@ module _ (g : Programs) (b : Board) (c : CreateCall) where
   silent p at n = ap (λ (a : At). coming_at a n) at
 
   moves : (p : CreateAt) (r : Response) → Here p → SameComing b.context (upd b.context i (create_context x c p r (hand_of b [])))
-  moves p r at = moved_comes b.context i (create_context x c p r (hand_of b [])) (λ n. create_comes c (create.leads c (hand_of b []) p r) n ∙ sym (silent p at n))
+  moves p r at =
+      moved_comes b.context i (create_context x c p r (hand_of b []))
+      (λ n. create_comes c (create.leads c (hand_of b []) p r) n ∙ sym (silent p at n))
 
   comes : (p : CreateAt) (r : Response) → Here p → Sound p → (n : ℕ) →
       coming_by ((New p r).owner n) (New p r).context n ≡ coming_by (b.owner n) b.context n
-  comes (create.Locked (create_locked.PlaceContext id)) asks.Placed at h = owned_comes b.context _ (both_come b.context id.number i _ _ (λ n. sym (ap (λ (a : At). coming_at a n) h.1.1.1.1.1.1.1.0.1)) (λ n. sym (silent _ at n))) i (silent _ at) b.owner (create.ask_of c x.own (create.Locked (create_locked.PlaceContext id))) asks.Placed tt
-  comes (create.Locked (create_locked.CommitCreate id)) asks.Won at h = owned_comes b.context _ (both_come b.context id.number i _ _ (λ n. sym (ap (λ (y : Context). coming_at y.at n) h.1.1.1.1.1.1.1.0.1)) (λ n. sym (silent _ at n))) i (silent _ at) b.owner (create.ask_of c x.own (create.Locked (create_locked.CommitCreate id))) asks.Won tt
-  comes (create.Outside create_outside.AcquireTable) r at h = owned_comes b.context _ (moves _ r at) i (silent _ at) b.owner (create.ask_of c x.own (create.Outside create_outside.AcquireTable)) r tt
+  comes (create.Locked (create_locked.PlaceContext id)) asks.Placed at h =
+      owned_comes b.context _ (both_come b.context id.number i _ _ (λ n. sym (ap (λ (a : At). coming_at a n) h.1.1.1.1.1.1.1.0.1))
+      (λ n. sym (silent _ at n))) i (silent _ at) b.owner
+      (create.ask_of c x.own (create.Locked (create_locked.PlaceContext id))) asks.Placed tt
+  comes (create.Locked (create_locked.CommitCreate id)) asks.Won at h =
+      owned_comes b.context _ (both_come b.context id.number i _ _
+      (λ n. sym (ap (λ (y : Context). coming_at y.at n) h.1.1.1.1.1.1.1.0.1)) (λ n. sym (silent _ at n))) i
+      (silent _ at) b.owner (create.ask_of c x.own (create.Locked (create_locked.CommitCreate id))) asks.Won tt
+  comes (create.Outside create_outside.AcquireTable) r at h =
+      owned_comes b.context _ (moves _ r at) i (silent _ at) b.owner
+      (create.ask_of c x.own (create.Outside create_outside.AcquireTable)) r tt
   comes (create.Outside (create_outside.Ended w)) r at h = absurd h.0
-  comes (create.Locked create_locked.LoadCaller) r at h = owned_comes b.context _ (moves _ r at) i (silent _ at) b.owner (create.ask_of c x.own (create.Locked create_locked.LoadCaller)) r tt
-  comes (create.Locked (create_locked.PlaceContext id)) r at h = owned_comes b.context _ (moves _ r at) i (silent _ at) b.owner (create.ask_of c x.own (create.Locked (create_locked.PlaceContext id))) r tt
-  comes (create.Locked (create_locked.CommitCreate id)) r at h = owned_comes b.context _ (moves _ r at) i (silent _ at) b.owner (create.ask_of c x.own (create.Locked (create_locked.CommitCreate id))) r tt
-  comes (create.Locked (create_locked.AcquireReady id)) r at h = owned_comes b.context _ (moves _ r at) i (silent _ at) b.owner (create.ask_of c x.own (create.Locked (create_locked.AcquireReady id))) r tt
-  comes (create.PushCreated id) r at h = owned_comes b.context _ (moves _ r at) i (silent _ at) b.owner (create.ask_of c x.own (create.PushCreated id)) r tt
-  comes (create.Locked (create_locked.Release q)) r at h = owned_comes b.context _ (moves _ r at) i (silent _ at) b.owner (create.ask_of c x.own (create.Locked (create_locked.Release q))) r tt
+  comes (create.Locked create_locked.LoadCaller) r at h =
+      owned_comes b.context _ (moves _ r at) i (silent _ at) b.owner
+      (create.ask_of c x.own (create.Locked create_locked.LoadCaller)) r tt
+  comes (create.Locked (create_locked.PlaceContext id)) r at h =
+      owned_comes b.context _ (moves _ r at) i (silent _ at) b.owner
+      (create.ask_of c x.own (create.Locked (create_locked.PlaceContext id))) r tt
+  comes (create.Locked (create_locked.CommitCreate id)) r at h =
+      owned_comes b.context _ (moves _ r at) i (silent _ at) b.owner
+      (create.ask_of c x.own (create.Locked (create_locked.CommitCreate id))) r tt
+  comes (create.Locked (create_locked.AcquireReady id)) r at h =
+      owned_comes b.context _ (moves _ r at) i (silent _ at) b.owner
+      (create.ask_of c x.own (create.Locked (create_locked.AcquireReady id))) r tt
+  comes (create.PushCreated id) r at h =
+      owned_comes b.context _ (moves _ r at) i (silent _ at) b.owner (create.ask_of c x.own (create.PushCreated id)) r tt
+  comes (create.Locked (create_locked.Release q)) r at h =
+      owned_comes b.context _ (moves _ r at) i (silent _ at) b.owner
+      (create.ask_of c x.own (create.Locked (create_locked.Release q))) r tt
 
   same_entries : (p : CreateAt) (r : Response) → Here p → Sound p → (n : ℕ) → entries (New p r) n ≡ entries b n
   same_entries p r at h n = ap (λ (es : List SenderEntry). b.queue n ++ es) (comes p r at h n)
 
   plain : (p : CreateAt) (r : Response) → Here p → Answers b (create.ask_of c x.own p) r → Sound p →
       IsPlain (create.ask_of c x.own p) r → (n : ℕ) → waiters b n ≡ waiters (New p r) n
-  plain p r at ans h q n = sym (plain_waiters b (New p r) (plain_words g b x.position (Point_of p r) (create.ask_of c x.own p) r ans q) (same_entries p r at h) n)
+  plain p r at ans h q n =
+      sym (plain_waiters b (New p r) (plain_words g b x.position (Point_of p r) (create.ask_of c x.own p) r ans q)
+      (same_entries p r at h) n)
 
   load_point : (dead : Bool) (o : Option ℕ) (f : ℕ → List Waiting) (n : ℕ) →
       lists_by (cond dead None (full_point c b.numbers o)) f n ≡ f n
@@ -190,7 +220,13 @@ module _ (g : Programs) (b : Board) (c : CreateCall) where
   made : Known b → (id : ThreadId) → Here (create.Locked (create_locked.CommitCreate id)) →
       Sound (create.Locked (create_locked.CommitCreate id)) → (n : ℕ) →
       waiters b n ≡ waiters (New (create.Locked (create_locked.CommitCreate id)) asks.Won) n
-  made known id at h n = elim (eqb_tells n id.number) [ inl q ↦ subst (λ (m : ℕ). waiters b m ≡ waiters (New (create.Locked (create_locked.CommitCreate id)) asks.Won) m) (sym q.1) (dead_waiters b id.number was ∙ sym now_none) | inr q ↦ sym (others n q.1) ]
+  made known id at h n =
+      elim (eqb_tells n id.number) [
+        | inl q ↦ subst (λ (m : ℕ). waiters b m ≡
+            waiters (New (create.Locked (create_locked.CommitCreate id)) asks.Won) m) (sym q.1)
+            (dead_waiters b id.number was ∙ sym now_none)
+        | inr q ↦ sym (others n q.1)
+      ]
     where
       is_word : (b.seen id.number).word ≡ dead_word (id.version - 1)
       is_word = h.1.1.1.1.1.1.0.1
@@ -198,12 +234,17 @@ module _ (g : Programs) (b : Board) (c : CreateCall) where
       was : is_dead (b.seen id.number).word ≡ true
       was = ap is_dead is_word
 
-      new_word : ((New (create.Locked (create_locked.CommitCreate id)) asks.Won).seen id.number).word ≡ created_word id.version c.priority
-      new_word = won_same g b.seen x.position (Some (create.point_of c (outcome.Made id))) id.number (dead_word (id.version - 1)) (created_word id.version c.priority)
+      new_word : ((New (create.Locked (create_locked.CommitCreate id)) asks.Won).seen id.number).word ≡
+          created_word id.version c.priority
+      new_word =
+          won_same g b.seen x.position (Some (create.point_of c (outcome.Made id))) id.number (dead_word (id.version - 1))
+          (created_word id.version c.priority)
 
       old_word : (t : ℕ) → t ≢ id.number →
           ((New (create.Locked (create_locked.CommitCreate id)) asks.Won).seen t).word ≡ (b.seen t).word
-      old_word t ne = won_other g b.seen x.position (Some (create.point_of c (outcome.Made id))) id.number (dead_word (id.version - 1)) (created_word id.version c.priority) t ne
+      old_word t ne =
+          won_other g b.seen x.position (Some (create.point_of c (outcome.Made id))) id.number (dead_word (id.version - 1))
+          (created_word id.version c.priority) t ne
 
       later : (b.seen id.number).word.version + 1 ≡ id.version
       later = next (version_at b.numbers id.number) h.1.1.1.1.1.0.2 (ap (λ (u : StateWord). u.version) is_word)
@@ -217,34 +258,61 @@ module _ (g : Programs) (b : Board) (c : CreateCall) where
       unknown t r en ev = not_sent r (b.seen t).word.state (λ to joined e. apart to (known t to joined e))
         where
           apart : (to : ThreadId) → to.version ≤ (b.seen to.number).word.version → same_id to r ≡ false
-          apart to k = elim (cases_eq to.number r.number) [ inl q ↦ by q (subst (λ (m : ℕ). to.version ≤ (b.seen m).word.version) (q ∙ en) k) | inr q ↦ rw (ne_eqb to.number r.number q) refl ]
+          apart to k =
+              elim (cases_eq to.number r.number) [
+                | inl q ↦ by q
+                    (subst (λ (m : ℕ). to.version ≤ (b.seen m).word.version) (q ∙ en) k)
+                | inr q ↦ rw (ne_eqb to.number r.number q) refl
+              ]
             where
               by : to.number ≡ r.number → to.version ≤ (b.seen id.number).word.version → same_id to r ≡ false
               by q l =
-                  ap (λ (d : Bool). eqb to.number r.number && d) (ne_eqb to.version r.version (λ e. omega (arith, l, e, ev, later)))
+                  ap (λ (d : Bool). eqb to.number r.number && d) (ne_eqb to.version r.version
+                  (λ e. omega (arith, l, e, ev, later)))
                   ∙ and_false _
 
       new_sends : (t : ℕ) →
-          sends_to (id_at (New (create.Locked (create_locked.CommitCreate id)) asks.Won) id.number) ((New (create.Locked (create_locked.CommitCreate id)) asks.Won).seen t).word.state ≡ false
+          sends_to (id_at (New (create.Locked (create_locked.CommitCreate id)) asks.Won) id.number)
+          ((New (create.Locked (create_locked.CommitCreate id)) asks.Won).seen t).word.state ≡ false
       new_sends t = elim (eqb_tells t id.number) [
-        | inl q ↦ ap (λ (m : ℕ). sends_to (id_at (New (create.Locked (create_locked.CommitCreate id)) asks.Won) id.number) ((New (create.Locked (create_locked.CommitCreate id)) asks.Won).seen m).word.state) q.1 ∙ ap (λ (u : StateWord). sends_to (id_at (New (create.Locked (create_locked.CommitCreate id)) asks.Won) id.number) u.state) new_word
-        | inr q ↦ ap (λ (u : StateWord). sends_to (id_at (New (create.Locked (create_locked.CommitCreate id)) asks.Won) id.number) u.state) (old_word t q.1) ∙ unknown t (id_at (New (create.Locked (create_locked.CommitCreate id)) asks.Won) id.number) refl (ap (λ (u : StateWord). u.version) new_word)
+        | inl q ↦
+            ap (λ (m : ℕ). sends_to (id_at (New (create.Locked (create_locked.CommitCreate id)) asks.Won) id.number)
+            ((New (create.Locked (create_locked.CommitCreate id)) asks.Won).seen m).word.state) q.1
+            ∙ ap (λ (u : StateWord). sends_to
+            (id_at (New (create.Locked (create_locked.CommitCreate id)) asks.Won) id.number) u.state) new_word
+        | inr q ↦
+            ap (λ (u : StateWord). sends_to
+            (id_at (New (create.Locked (create_locked.CommitCreate id)) asks.Won) id.number) u.state) (old_word t q.1)
+            ∙ unknown t (id_at (New (create.Locked (create_locked.CommitCreate id)) asks.Won) id.number) refl
+            (ap (λ (u : StateWord). u.version) new_word)
       ]
 
       now_none : waiters (New (create.Locked (create_locked.CommitCreate id)) asks.Won) id.number ≡ []
       now_none =
           living_waiters (New (create.Locked (create_locked.CommitCreate id)) asks.Won) id.number (ap is_dead new_word)
-          ∙ ap (map waiting_of) (none_left (waits (New (create.Locked (create_locked.CommitCreate id)) asks.Won) id.number) (λ e. idle_waits (New (create.Locked (create_locked.CommitCreate id)) asks.Won) id.number e (new_sends (number_of e))) (entries (New (create.Locked (create_locked.CommitCreate id)) asks.Won) id.number))
+          ∙ ap (map waiting_of) (none_left (waits (New (create.Locked (create_locked.CommitCreate id)) asks.Won) id.number)
+          (λ e. idle_waits (New (create.Locked (create_locked.CommitCreate id)) asks.Won) id.number e
+          (new_sends (number_of e))) (entries (New (create.Locked (create_locked.CommitCreate id)) asks.Won) id.number))
 
       others : (n : ℕ) → n ≢ id.number → waiters (New (create.Locked (create_locked.CommitCreate id)) asks.Won) n ≡ waiters b n
       others n ne = by_entries b (New (create.Locked (create_locked.CommitCreate id)) asks.Won) n (ap is_dead (old_word n ne))
-          (λ _. both_left (waits b n) (waits (New (create.Locked (create_locked.CommitCreate id)) asks.Won) n) (entries b n) (entries (New (create.Locked (create_locked.CommitCreate id)) asks.Won) n) same (same_entries (create.Locked (create_locked.CommitCreate id)) asks.Won at h n))
+          (λ _. both_left (waits b n) (waits (New (create.Locked (create_locked.CommitCreate id)) asks.Won) n) (entries b n)
+          (entries (New (create.Locked (create_locked.CommitCreate id)) asks.Won) n) same
+          (same_entries (create.Locked (create_locked.CommitCreate id)) asks.Won at h n))
         where
           same : (e : SenderEntry) → waits (New (create.Locked (create_locked.CommitCreate id)) asks.Won) n e ≡ waits b n e
           same e = elim (eqb_tells (number_of e) id.number) [
-            | inl q ↦ idle_waits (New (create.Locked (create_locked.CommitCreate id)) asks.Won) n e (ap (λ (m : ℕ). sends_to (id_at (New (create.Locked (create_locked.CommitCreate id)) asks.Won) n) ((New (create.Locked (create_locked.CommitCreate id)) asks.Won).seen m).word.state) q.1 ∙ ap (λ (u : StateWord). sends_to (id_at (New (create.Locked (create_locked.CommitCreate id)) asks.Won) n) u.state) new_word)
-                ∙ sym (idle_waits b n e (dead_sends (b.seen (number_of e)).word (id_at b n) (ap (λ (m : ℕ). is_dead (b.seen m).word) q.1 ∙ was)))
-            | inr q ↦ (λ d. waits_for (record { number = n; version = ap (λ (u : StateWord). u.version) (old_word n ne) d }) e (old_word (number_of e) q.1 d))
+            | inl q ↦
+                idle_waits (New (create.Locked (create_locked.CommitCreate id)) asks.Won) n e
+                (ap (λ (m : ℕ). sends_to (id_at (New (create.Locked (create_locked.CommitCreate id)) asks.Won) n)
+                ((New (create.Locked (create_locked.CommitCreate id)) asks.Won).seen m).word.state) q.1
+                ∙ ap (λ (u : StateWord). sends_to
+                (id_at (New (create.Locked (create_locked.CommitCreate id)) asks.Won) n) u.state) new_word)
+                ∙ sym (idle_waits b n e (dead_sends (b.seen (number_of e)).word (id_at b n)
+                (ap (λ (m : ℕ). is_dead (b.seen m).word) q.1 ∙ was)))
+            | inr q ↦
+                (λ d. waits_for (record { number = n; version = ap (λ (u : StateWord). u.version) (old_word n ne) d }) e
+                (old_word (number_of e) q.1 d))
           ]
 
   pub create_waits : Known b → (p : CreateAt) (r : Response) → Here p → Answers b (create.ask_of c x.own p) r → Sound p →
@@ -254,13 +322,18 @@ module _ (g : Programs) (b : Board) (c : CreateCall) where
   create_waits known (create.Locked create_locked.LoadCaller) (asks.Word w) at ans h n =
       load_point (is_dead w) (lowest_free b.numbers) (waiters b) n
       ∙ plain (create.Locked create_locked.LoadCaller) (asks.Word w) at ans h tt n
-  create_waits known (create.Locked (create_locked.PlaceContext id)) asks.Placed at ans h n = plain (create.Locked (create_locked.PlaceContext id)) asks.Placed at ans h tt n
+  create_waits known (create.Locked (create_locked.PlaceContext id)) asks.Placed at ans h n =
+      plain (create.Locked (create_locked.PlaceContext id)) asks.Placed at ans h tt n
   create_waits known (create.Locked (create_locked.CommitCreate id)) asks.Won at ans h n = made known id at h n
-  create_waits known (create.Locked (create_locked.CommitCreate id)) (asks.Lost v) at ans h n = absurd (ans.1 (sym ans.0 ∙ h.1.1.1.1.1.1.0.1))
-  create_waits known (create.Locked (create_locked.AcquireReady id)) asks.Got at ans h n = plain (create.Locked (create_locked.AcquireReady id)) asks.Got at ans h tt n
-  create_waits known (create.Locked (create_locked.AcquireReady id)) (asks.Owned o) at ans h n = plain (create.Locked (create_locked.AcquireReady id)) (asks.Owned o) at ans h tt n
+  create_waits known (create.Locked (create_locked.CommitCreate id)) (asks.Lost v) at ans h n =
+      absurd (ans.1 (sym ans.0 ∙ h.1.1.1.1.1.1.0.1))
+  create_waits known (create.Locked (create_locked.AcquireReady id)) asks.Got at ans h n =
+      plain (create.Locked (create_locked.AcquireReady id)) asks.Got at ans h tt n
+  create_waits known (create.Locked (create_locked.AcquireReady id)) (asks.Owned o) at ans h n =
+      plain (create.Locked (create_locked.AcquireReady id)) (asks.Owned o) at ans h tt n
   create_waits known (create.PushCreated id) asks.Released at ans h n = plain (create.PushCreated id) asks.Released at ans h tt n
-  create_waits known (create.Locked (create_locked.Release q)) asks.Released at ans h n = plain (create.Locked (create_locked.Release q)) asks.Released at ans h tt n
+  create_waits known (create.Locked (create_locked.Release q)) asks.Released at ans h n =
+      plain (create.Locked (create_locked.Release q)) asks.Released at ans h tt n
   create_waits known (create.Outside (create_outside.Ended w)) r at ans h n = absurd h.0
   create_waits known p r at ans h n = absurd ans
 
@@ -270,7 +343,10 @@ module _ (g : Programs) (b : Board) (i : ℕ) where
   -- a context from which no entry comes moves to where none comes from
   pub placed_waits : (x : Context) → ((n : ℕ) → coming_at x.at n ≡ []) → ((n : ℕ) → coming_at (b.context i).at n ≡ []) → (n : ℕ) →
       waiters b n ≡ waiters (placed b i x) n
-  placed_waits x e none n = sym (plain_waiters b (placed b i x) (λ t. alike_is (b.seen t).word (b.seen t).word refl) (λ m. ap (λ (es : List SenderEntry). b.queue m ++ es) (comes_still b.context (upd b.context i x) (moved_comes b.context i x (λ t. e t ∙ sym (none t))) (b.owner m) m)) n)
+  placed_waits x e none n =
+      sym (plain_waiters b (placed b i x) (λ t. alike_is (b.seen t).word (b.seen t).word refl)
+      (λ m. ap (λ (es : List SenderEntry). b.queue m ++ es)
+      (comes_still b.context (upd b.context i x) (moved_comes b.context i x (λ t. e t ∙ sym (none t))) (b.owner m) m)) n)
 
   abbrev Alone_now : ThreadLocation → Response → Board
   Alone_now p r = alone_board g b i (b.context i) p r
@@ -278,7 +354,13 @@ module _ (g : Programs) (b : Board) (i : ℕ) where
   plain_alone : (p : ThreadLocation) (r : Response) → (b.context i).at ≡ Alone p →
       Answers b (alone.ask_of (id_at b i) (b.context i).own p) r → IsPlain (alone.ask_of (id_at b i) (b.context i).own p) r →
       (n : ℕ) → waiters b n ≡ waiters (Alone_now p r) n
-  plain_alone p r at ans q n = sym (plain_waiters b (Alone_now p r) (plain_words g b (b.context i).position (alone.points (id_at b i) p r) (alone.ask_of (id_at b i) (b.context i).own p) r ans q) (λ m. ap (λ (es : List SenderEntry). b.queue m ++ es) (comes_still b.context (upd b.context i (alone_context (b.context i) p r)) (moved_comes b.context i (alone_context (b.context i) p r) (λ t. sym (ap (λ (a : At). coming_at a t) at))) (b.owner m) m)) n)
+  plain_alone p r at ans q n =
+      sym (plain_waiters b (Alone_now p r) (plain_words g b (b.context i).position (alone.points (id_at b i) p r)
+      (alone.ask_of (id_at b i) (b.context i).own p) r ans q)
+      (λ m. ap (λ (es : List SenderEntry). b.queue m ++ es)
+      (comes_still b.context (upd b.context i (alone_context (b.context i) p r))
+      (moved_comes b.context i (alone_context (b.context i) p r) (λ t. sym (ap (λ (a : At). coming_at a t) at)))
+      (b.owner m) m)) n)
 
   run_calm : (w : StateWord) → IsRun w → is_calm w.state ≡ true
   run_calm w run = ap is_calm run.state
@@ -286,12 +368,16 @@ module _ (g : Programs) (b : Board) (i : ℕ) where
   pub alone_waits : (p : ThreadLocation) (r : Response) → (b.context i).at ≡ Alone p → can_ask p ≡ true →
       Answers b (alone.ask_of (id_at b i) (b.context i).own p) r → AllSay g b i (b.context i) (facts_alone p) → (n : ℕ) →
       lists_by (alone.points (id_at b i) p r) (waiters b) n ≡ waiters (Alone_now p r) n
-  alone_waits location.FallAsleep asks.Won at can ans h n = plain_alone location.FallAsleep asks.Won at ans record { version = refl; dead = refl; sends = λ to. refl } n
+  alone_waits location.FallAsleep asks.Won at can ans h n =
+      plain_alone location.FallAsleep asks.Won at ans record { version = refl; dead = refl; sends = λ to. refl } n
   alone_waits location.FallAsleep (asks.Lost w) at can ans h n = plain_alone location.FallAsleep (asks.Lost w) at ans tt n
   alone_waits location.LookAgain (asks.Word w) at can ans h n = plain_alone location.LookAgain (asks.Word w) at ans tt n
-  alone_waits (location.LoadMail from) (asks.Mail m) at can ans h n = plain_alone (location.LoadMail from) (asks.Mail m) at ans tt n
+  alone_waits (location.LoadMail from) (asks.Mail m) at can ans h n =
+      plain_alone (location.LoadMail from) (asks.Mail m) at ans tt n
   alone_waits (location.Work count) (asks.Word w) at can ans h n = plain_alone (location.Work count) (asks.Word w) at ans tt n
-  alone_waits location.CommitEnd asks.Won at can ans h n = plain_alone location.CommitEnd asks.Won at ans (calm_alike (b.context i).own (ended_word (b.context i).own) refl (run_calm (b.context i).own h.1.1.0.0) refl) n
+  alone_waits location.CommitEnd asks.Won at can ans h n =
+      plain_alone location.CommitEnd asks.Won at ans (calm_alike (b.context i).own (ended_word (b.context i).own) refl
+      (run_calm (b.context i).own h.1.1.0.0) refl) n
   alone_waits location.CommitEnd (asks.Lost w) at can ans h n = plain_alone location.CommitEnd (asks.Lost w) at ans tt n
   alone_waits (location.Between l) r at can ans h n = absurd cc
   alone_waits location.Asleep r at can ans h n = absurd cc
@@ -302,7 +388,13 @@ module _ (g : Programs) (b : Board) (i : ℕ) where
   -- a switch takes and releases the ready lock alone
   pub switch_waits : (c : SwitchCall) (p : SwitchAt) (r : Response) → (b.context i).at ≡ InSwitch c p → (n : ℕ) →
       waiters b n ≡ waiters (switch_board b i (b.context i) c p r) n
-  switch_waits c p r at n = sym (plain_waiters b (switch_board b i (b.context i) c p r) (λ t. alike_is (b.seen t).word (b.seen t).word refl) (λ m. ap (λ (es : List SenderEntry). b.queue m ++ es) (owned_comes b.context (upd b.context i (switch_context (b.context i) c p r (hand_of b []))) (moved_comes b.context i (switch_context (b.context i) c p r (hand_of b [])) (λ t. sym (ap (λ (a : At). coming_at a t) at))) i (λ t. ap (λ (a : At). coming_at a t) at) b.owner (switch.ask_of c p) r (owns p) m)) n)
+  switch_waits c p r at n =
+      sym (plain_waiters b (switch_board b i (b.context i) c p r) (λ t. alike_is (b.seen t).word (b.seen t).word refl)
+      (λ m. ap (λ (es : List SenderEntry). b.queue m ++ es)
+      (owned_comes b.context (upd b.context i (switch_context (b.context i) c p r (hand_of b [])))
+      (moved_comes b.context i (switch_context (b.context i) c p r (hand_of b []))
+      (λ t. sym (ap (λ (a : At). coming_at a t) at))) i (λ t. ap (λ (a : At). coming_at a t) at) b.owner (switch.ask_of c p) r
+      (owns p) m)) n)
     where
       owns : (p : SwitchAt) → Owns b.owner i (switch.ask_of c p) r
       owns switch.AcquireReady = tt

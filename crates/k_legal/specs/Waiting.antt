@@ -63,7 +63,7 @@ ShowsLists b k = (n : ℕ) → (k.place n).waiting ≡ waiters b n
 
 -- WHAT AN ENTRY'S BITS STAND ON
 
--- A message is two words of 32 bits.
+-- The low word of a message has 32 bits, as an entry of a queue has it.
 abbrev pub IsMessage : Message → Type 0
 IsMessage m = m.low < 2 ^ 32
 

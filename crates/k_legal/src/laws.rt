@@ -23,7 +23,7 @@ pub fn every_turn_is_followed()
         MessagesHold b.context → b.size ≤ 64 → IsFollowed b k → (t : Turn g b i b') → Follows g b k (turn_point g b i b' t) b' }
 {}
 
-/// Each message that is sent is one of two words of 32 bits, after any turn, where each call that a program gives has such a
+/// Each message that is sent has a low word of 32 bits, after any turn, where each call that a program gives has such a
 /// message.
 pub fn messages_stay_in_range()
     ensures { (g : Programs) (b b' : Board) (i : ℕ) → MessagesFit g → MessagesHold b.context → Turn g b i b' →

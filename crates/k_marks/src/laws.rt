@@ -32,7 +32,8 @@ pub fn contexts_count_their_marks()
     ensures { (table : ℕ) (s t : Counting) → IsCounted table s → Changes s t → IsCounted table t }
 {}
 
-/// Over a whole run the marks of each call are numbered in the order of its steps, and none stands twice.
+/// Where contexts have counted their marks, the marks of each call are numbered in the order of its steps, and none stands
+/// twice.
 pub fn marks_stay_in_order()
     ensures order { (table : ℕ) (s : Counting) → IsCounted table s → IsLawfulMarks s.marks }
     ensures once { (table : ℕ) (s : Counting) → IsCounted table s → IsOnceMade s.marks }

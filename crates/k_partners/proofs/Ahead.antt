@@ -1,5 +1,6 @@
 -- The destroy that has killed its victim, on its way through the numbers.
-use Rattle.std.proofs.Common.{◌≡◌, ◌≢◌, ℕ, ◌+◌, ◌≤◌, ◌<◌, Bool, true, false, refl, sym, ap, ◌∙◌, subst, arith, Option, Some, List, [], ◌∷◌, not, inl, inr}
+use Rattle.std.proofs.Common.{◌≡◌, ◌≢◌, ℕ, ◌+◌, ◌≤◌, ◌<◌, Bool, true, false, refl, sym, ap}
+use Rattle.std.proofs.Common.{◌∙◌, subst, arith, Option, Some, List, [], ◌∷◌, not, inl, inr}
 use Rattle.std.specs.Prelude.{◌==◌, ◌&&◌, length, nat_le, nat_lt, slice_index_or}
 use Rattle.std.proofs.lemmas.Bool.Decides.{nat_tests}
 use Rattle.std.proofs.lemmas.List.{get_or_past}
@@ -63,20 +64,32 @@ module _ (g : Programs) (b : Board) (i : ℕ) (x : Context) (c : DestroyCall) wh
   -- the victim is dead, and the caller runs
   pub ahead_facts : (p : DestroyAt) (t : ℕ) → is_ahead p t ≡ true → AllSay g b i x (facts_destroy c p) →
       AllSay g b i x (killed c [])
-  ahead_facts (destroy.Victim (victim.LoadSender sender)) t a f = (f.0, (f.1.0, (f.1.1.0, (f.1.1.1.0, (f.1.1.1.1.0, (f.1.1.1.1.1.0, (f.1.1.1.1.1.1.0, tt)))))))
-  ahead_facts (destroy.Victim (victim.FreeSender sender w)) t a f = (f.0, (f.1.0, (f.1.1.0, (f.1.1.1.0, (f.1.1.1.1.0, (f.1.1.1.1.1.0, (f.1.1.1.1.1.1.0, tt)))))))
-  ahead_facts (destroy.Victim (victim.AcquireReadyForSender sender w)) t a f = (f.0, (f.1.0, (f.1.1.0, (f.1.1.1.0, (f.1.1.1.1.0, (f.1.1.1.1.1.0, (f.1.1.1.1.1.1.0, tt)))))))
-  ahead_facts (destroy.Victim victim.ReleaseVictimLock) t a f = (f.0, (f.1.0, (f.1.1.0, (f.1.1.1.0, (f.1.1.1.1.0, (f.1.1.1.1.1.0, (f.1.1.1.1.1.1.0, tt)))))))
-  ahead_facts (destroy.Pushing (destroy_pushing.PushSender sender w)) t a f = (f.0, (f.1.0, (f.1.1.0, (f.1.1.1.0, (f.1.1.1.1.0, (f.1.1.1.1.1.0, (f.1.1.1.1.1.1.0, tt)))))))
+  ahead_facts (destroy.Victim (victim.LoadSender sender)) t a f =
+      (f.0, (f.1.0, (f.1.1.0, (f.1.1.1.0, (f.1.1.1.1.0, (f.1.1.1.1.1.0, (f.1.1.1.1.1.1.0, tt)))))))
+  ahead_facts (destroy.Victim (victim.FreeSender sender w)) t a f =
+      (f.0, (f.1.0, (f.1.1.0, (f.1.1.1.0, (f.1.1.1.1.0, (f.1.1.1.1.1.0, (f.1.1.1.1.1.1.0, tt)))))))
+  ahead_facts (destroy.Victim (victim.AcquireReadyForSender sender w)) t a f =
+      (f.0, (f.1.0, (f.1.1.0, (f.1.1.1.0, (f.1.1.1.1.0, (f.1.1.1.1.1.0, (f.1.1.1.1.1.1.0, tt)))))))
+  ahead_facts (destroy.Victim victim.ReleaseVictimLock) t a f =
+      (f.0, (f.1.0, (f.1.1.0, (f.1.1.1.0, (f.1.1.1.1.0, (f.1.1.1.1.1.0, (f.1.1.1.1.1.1.0, tt)))))))
+  ahead_facts (destroy.Pushing (destroy_pushing.PushSender sender w)) t a f =
+      (f.0, (f.1.0, (f.1.1.0, (f.1.1.1.0, (f.1.1.1.1.0, (f.1.1.1.1.1.0, (f.1.1.1.1.1.1.0, tt)))))))
   ahead_facts (destroy.Locked destroy_locked.AcquireReadyForVictim) t a f = f
-  ahead_facts destroy.UnlistVictim t a f = (f.0, (f.1.0, (f.1.1.0, (f.1.1.1.0, (f.1.1.1.1.0, (f.1.1.1.1.1.0, (f.1.1.1.1.1.1.0, tt)))))))
+  ahead_facts destroy.UnlistVictim t a f =
+      (f.0, (f.1.0, (f.1.1.0, (f.1.1.1.0, (f.1.1.1.1.0, (f.1.1.1.1.1.0, (f.1.1.1.1.1.1.0, tt)))))))
   ahead_facts (destroy.Locked destroy_locked.RemoveContext) t a f = f
-  ahead_facts (destroy.Locked (destroy_locked.AcquireVisitedLock visited)) t a f = (f.0, (f.1.0, (f.1.1.0, (f.1.1.1.0, (f.1.1.1.1.0, (f.1.1.1.1.1.0, (f.1.1.1.1.1.1.0, tt)))))))
-  ahead_facts (destroy.Visit (visit.LoadVisited visited)) t a f = (f.0, (f.1.0, (f.1.1.0, (f.1.1.1.0, (f.1.1.1.1.0, (f.1.1.1.1.1.0, (f.1.1.1.1.1.1.0, tt)))))))
-  ahead_facts (destroy.Visit (visit.FreeVisited visited w)) t a f = (f.0, (f.1.0, (f.1.1.0, (f.1.1.1.0, (f.1.1.1.1.0, (f.1.1.1.1.1.0, (f.1.1.1.1.1.1.0, tt)))))))
-  ahead_facts (destroy.Visit (visit.AcquireReadyForVisited visited w)) t a f = (f.0, (f.1.0, (f.1.1.0, (f.1.1.1.0, (f.1.1.1.1.0, (f.1.1.1.1.1.0, (f.1.1.1.1.1.1.0, tt)))))))
-  ahead_facts (destroy.Visit (visit.ReleaseVisitedLock visited)) t a f = (f.0, (f.1.0, (f.1.1.0, (f.1.1.1.0, (f.1.1.1.1.0, (f.1.1.1.1.1.0, (f.1.1.1.1.1.1.0, tt)))))))
-  ahead_facts (destroy.Pushing (destroy_pushing.PushVisited visited w)) t a f = (f.0, (f.1.0, (f.1.1.0, (f.1.1.1.0, (f.1.1.1.1.0, (f.1.1.1.1.1.0, (f.1.1.1.1.1.1.0, tt)))))))
+  ahead_facts (destroy.Locked (destroy_locked.AcquireVisitedLock visited)) t a f =
+      (f.0, (f.1.0, (f.1.1.0, (f.1.1.1.0, (f.1.1.1.1.0, (f.1.1.1.1.1.0, (f.1.1.1.1.1.1.0, tt)))))))
+  ahead_facts (destroy.Visit (visit.LoadVisited visited)) t a f =
+      (f.0, (f.1.0, (f.1.1.0, (f.1.1.1.0, (f.1.1.1.1.0, (f.1.1.1.1.1.0, (f.1.1.1.1.1.1.0, tt)))))))
+  ahead_facts (destroy.Visit (visit.FreeVisited visited w)) t a f =
+      (f.0, (f.1.0, (f.1.1.0, (f.1.1.1.0, (f.1.1.1.1.0, (f.1.1.1.1.1.0, (f.1.1.1.1.1.1.0, tt)))))))
+  ahead_facts (destroy.Visit (visit.AcquireReadyForVisited visited w)) t a f =
+      (f.0, (f.1.0, (f.1.1.0, (f.1.1.1.0, (f.1.1.1.1.0, (f.1.1.1.1.1.0, (f.1.1.1.1.1.1.0, tt)))))))
+  ahead_facts (destroy.Visit (visit.ReleaseVisitedLock visited)) t a f =
+      (f.0, (f.1.0, (f.1.1.0, (f.1.1.1.0, (f.1.1.1.1.0, (f.1.1.1.1.1.0, (f.1.1.1.1.1.1.0, tt)))))))
+  ahead_facts (destroy.Pushing (destroy_pushing.PushVisited visited w)) t a f =
+      (f.0, (f.1.0, (f.1.1.0, (f.1.1.1.0, (f.1.1.1.1.0, (f.1.1.1.1.1.0, (f.1.1.1.1.1.1.0, tt)))))))
   ahead_facts (destroy.Victim victim.LoadVictim) t a f = absurd cc
   ahead_facts (destroy.Victim (victim.CommitKill w)) t a f = absurd cc
   ahead_facts (destroy.Victim (victim.ReleaseVictimLockAbsent q)) t a f = absurd cc
@@ -87,10 +100,15 @@ module _ (g : Programs) (b : Board) (i : ℕ) (x : Context) (c : DestroyCall) wh
 
   module _ (t : ℕ) (apart : t ≢ c.who.number) (below : t < c.count) where
     visits_ahead : (n : ℕ) → n ≤ t → is_ahead (destroy.Locked (visit_from c n)) t ≡ true
-    visits_ahead n l = if_cases (λ (p : DestroyLocked). is_ahead (destroy.Locked p) t ≡ true) (nat_lt (but_victim c n) c.count) (destroy_locked.AcquireVisitedLock (but_victim c n)) (destroy_locked.Release destroy_release.Killed) (λ q. near) (λ q. absurd (far q))
+    visits_ahead n l =
+        if_cases (λ (p : DestroyLocked). is_ahead (destroy.Locked p) t ≡ true) (nat_lt (but_victim c n) c.count)
+        (destroy_locked.AcquireVisitedLock (but_victim c n)) (destroy_locked.Release destroy_release.Killed) (λ q. near)
+        (λ q. absurd (far q))
       where
         near : nat_le (but_victim c n) t ≡ true
-        near = if_cases (λ (m : ℕ). nat_le m t ≡ true) (n == c.who.number) (n + 1) n (λ q. grind (arith, nat_tests)) (λ q. grind (arith, nat_tests))
+        near =
+            if_cases (λ (m : ℕ). nat_le m t ≡ true) (n == c.who.number) (n + 1) n (λ q. grind (arith, nat_tests))
+            (λ q. grind (arith, nat_tests))
 
         far : nat_lt (but_victim c n) c.count ≡ false → ⊥
         far q = grind (arith, nat_tests, near)
@@ -103,11 +121,14 @@ module _ (g : Programs) (b : Board) (i : ℕ) (x : Context) (c : DestroyCall) wh
         AllSay g b i x (facts_destroy c p) → is_receiving_from c.who (b.seen t).word.state ≡ true → is_ahead p t ≡ true →
         is_ahead (destroy.leads c h p r) t ≡ true
     ahead_goes h (destroy.Victim (victim.LoadSender sender)) (asks.Word w) an f q a = refl
-    ahead_goes h (destroy.Victim (victim.FreeSender sender w)) asks.Won an f q a = if_cases (λ (p : DestroyVictim). is_ahead (destroy.Victim p) t ≡ true) w.on (free_first (rest h.queue.entries)) (victim.AcquireReadyForSender sender w) (λ e. first_ahead (rest h.queue.entries) t) (λ e. refl)
+    ahead_goes h (destroy.Victim (victim.FreeSender sender w)) asks.Won an f q a =
+        if_cases (λ (p : DestroyVictim). is_ahead (destroy.Victim p) t ≡ true) w.on (free_first (rest h.queue.entries))
+        (victim.AcquireReadyForSender sender w) (λ e. first_ahead (rest h.queue.entries) t) (λ e. refl)
     ahead_goes h (destroy.Victim (victim.FreeSender sender w)) (asks.Lost v) an f q a = refl
     ahead_goes h (destroy.Victim (victim.AcquireReadyForSender sender w)) asks.Got an f q a = refl
     ahead_goes h (destroy.Victim (victim.AcquireReadyForSender sender w)) (asks.Owned k) an f q a = refl
-    ahead_goes h (destroy.Pushing (destroy_pushing.PushSender sender w)) asks.Released an f q a = first_ahead (rest h.queue.entries) t
+    ahead_goes h (destroy.Pushing (destroy_pushing.PushSender sender w)) asks.Released an f q a =
+        first_ahead (rest h.queue.entries) t
     ahead_goes h (destroy.Victim victim.ReleaseVictimLock) asks.Released an f q a = refl
     ahead_goes h (destroy.Locked destroy_locked.AcquireReadyForVictim) asks.Got an f q a = refl
     ahead_goes h (destroy.Locked destroy_locked.AcquireReadyForVictim) (asks.Owned k) an f q a = refl
@@ -116,13 +137,18 @@ module _ (g : Programs) (b : Board) (i : ℕ) (x : Context) (c : DestroyCall) wh
     ahead_goes h (destroy.Locked destroy_locked.RemoveContext) asks.Kept an f q a = refl
     ahead_goes h (destroy.Locked (destroy_locked.AcquireVisitedLock n)) asks.Got an f q a = a
     ahead_goes h (destroy.Locked (destroy_locked.AcquireVisitedLock n)) (asks.Owned k) an f q a = a
-    ahead_goes h (destroy.Visit (visit.LoadVisited n)) (asks.Word w) an f q a = if_cases (λ (p : DestroyVisit). is_ahead (destroy.Visit p) t ≡ true) (is_receiving_from c.who w.state) (visit.FreeVisited n w) (visit.ReleaseVisitedLock n) (λ e. a) (λ e. a)
-    ahead_goes h (destroy.Visit (visit.FreeVisited n w)) asks.Won an f q a = if_cases (λ (p : DestroyVisit). is_ahead (destroy.Visit p) t ≡ true) w.on (visit.ReleaseVisitedLock n) (visit.AcquireReadyForVisited n w) (λ e. a) (λ e. a)
+    ahead_goes h (destroy.Visit (visit.LoadVisited n)) (asks.Word w) an f q a =
+        if_cases (λ (p : DestroyVisit). is_ahead (destroy.Visit p) t ≡ true) (is_receiving_from c.who w.state)
+        (visit.FreeVisited n w) (visit.ReleaseVisitedLock n) (λ e. a) (λ e. a)
+    ahead_goes h (destroy.Visit (visit.FreeVisited n w)) asks.Won an f q a =
+        if_cases (λ (p : DestroyVisit). is_ahead (destroy.Visit p) t ≡ true) w.on (visit.ReleaseVisitedLock n)
+        (visit.AcquireReadyForVisited n w) (λ e. a) (λ e. a)
     ahead_goes h (destroy.Visit (visit.FreeVisited n w)) (asks.Lost v) an f q a = a
     ahead_goes h (destroy.Visit (visit.AcquireReadyForVisited n w)) asks.Got an f q a = a
     ahead_goes h (destroy.Visit (visit.AcquireReadyForVisited n w)) (asks.Owned k) an f q a = a
     ahead_goes h (destroy.Pushing (destroy_pushing.PushVisited n w)) asks.Released an f q a = a
-    ahead_goes h (destroy.Visit (visit.ReleaseVisitedLock n)) asks.Released an f q a = visits_ahead (n + 1) (past n a (λ e. hears (subst (λ (m : ℕ). is_receiving_from c.who (b.seen m).word.state ≡ true) e q)))
+    ahead_goes h (destroy.Visit (visit.ReleaseVisitedLock n)) asks.Released an f q a =
+        visits_ahead (n + 1) (past n a (λ e. hears (subst (λ (m : ℕ). is_receiving_from c.who (b.seen m).word.state ≡ true) e q)))
       where
         hears : is_receiving_from c.who (b.seen n).word.state ≡ true → ⊥
         hears y = true≢false (sym y ∙ f.1.1.1.1.1.1.1.1.1.1.0.3)
@@ -155,7 +181,9 @@ below_size b i c p t h o at ne alive = subst (λ (n : ℕ). t < n) h.whole (past
     other = grind (arith, nat_tests)
 
     killed_ : by_owner killed_at b.table b.context t ≡ false
-    killed_ = ap (λ (m : Option ℕ). by_owner killed_at m b.context t) o ∙ ap (λ (q : At). killed_at q t) at ∙ no_and (is_killed p) (c.who.number == t) other
+    killed_ =
+        ap (λ (m : Option ℕ). by_owner killed_at m b.context t) o ∙ ap (λ (q : At). killed_at q t) at
+        ∙ no_and (is_killed p) (c.who.number == t) other
 
     there : is_present b.numbers t ≡ true
     there = h.present t made killed_ ∙ ap not alive

@@ -79,7 +79,8 @@ abbrev pub Begins : Board → ℕ → At → ℕ → StateWord → StateWord →
 Begins b i next n old new = (from : ThreadId) → new.state ≡ state.Receiving (Some from) → Came b i next n old from
 
 abbrev pub Stays : At → ℕ → StateWord → StateWord → Type 0
-Stays next n old new = (id : ThreadId) → id.number ≡ n → is_present_in old id ≡ true → (is_present_in new id ≡ true) ⊎ Killed next id
+Stays next n old new =
+    (id : ThreadId) → id.number ≡ n → is_present_in old id ≡ true → (is_present_in new id ≡ true) ⊎ Killed next id
 
 -- what an exchange makes of both, where it is won
 abbrev pub Exchanged : Board → ℕ → At → Ask → Type 0
@@ -122,7 +123,11 @@ module _ (b : Board) (i : ℕ) (next : At) where
       Begins b i next c.caller.number own (passed_word m c.to own) × Stays next c.caller.number own (passed_word m c.to own)
   passes c own manner.Plain ne th = rests c.caller.number own (passed_word manner.Plain c.to own) (λ from e. cc) refl refl
   passes c own manner.Reply ne th = rests c.caller.number own (passed_word manner.Reply c.to own) (λ from e. cc) refl refl
-  passes c own manner.Joined ne th = (λ from e. let q : c.to ≡ from = cc in went_to (subst (IsThere b) q th) (subst (λ (f : ThreadId). f.number ≢ c.caller.number) q ne), λ id at p. inl (present_stays own (passed_word manner.Joined c.to own) id refl refl p))
+  passes c own manner.Joined ne th = (
+    λ from e. let q : c.to ≡ from = cc in went_to (subst (IsThere b) q th)
+        (subst (λ (f : ThreadId). f.number ≢ c.caller.number) q ne),
+    λ id at p. inl (present_stays own (passed_word manner.Joined c.to own) id refl refl p),
+  )
 
   -- a sender's message is taken
   frees : (n : ℕ) (me : ThreadId) (w : StateWord) → me.number ≢ n → IsThere b me →
@@ -133,7 +138,10 @@ module _ (b : Board) (i : ℕ) (next : At) where
       new a = if a then record w { state = state.Receiving (Some me) } else record w { on = true; state = state.Run result4.Sent }
 
       by : (a : Bool) → Begins b i next n w (new a) × Stays next n w (new a)
-      by true = (λ from e. let q : me ≡ from = cc in went_to (subst (IsThere b) q th) (subst (λ (f : ThreadId). f.number ≢ n) q ne), λ id at p. inl (present_stays w (new true) id refl refl p))
+      by true = (
+        λ from e. let q : me ≡ from = cc in went_to (subst (IsThere b) q th) (subst (λ (f : ThreadId). f.number ≢ n) q ne),
+        λ id at p. inl (present_stays w (new true) id refl refl p),
+      )
       by false = rests n w (new false) (λ from e. cc) refl refl
 
 -- LOCATIONS
@@ -141,9 +149,12 @@ module _ (b : Board) (i : ℕ) (next : At) where
 module _ (g : Programs) (b : Board) (i : ℕ) (x : Context) where
   pub send_exchanged : (next : At) (c : SendCall) (p : SendAt) → AllSay g b i x (facts_send c p) →
       Exchanged b i next (send.ask_of c x.own p)
-  send_exchanged next c (send.Locked (send_locked.CommitPass w)) f = λ was. passes b i next c x.own c.manner (λ e. f.0 (e ∙ f.1.1.1.0.0)) f.1.0.1.0
-  send_exchanged next c (send.Locked (send_locked.WakeReceiver w)) f = λ was. rests b i next c.to.number w (delivered_word c w) (λ from e. cc) refl refl
-  send_exchanged next c (send.Locked send_locked.CommitWait) f = λ was. rests b i next c.caller.number x.own (waiting_word c x.own) (λ from e. cc) refl refl
+  send_exchanged next c (send.Locked (send_locked.CommitPass w)) f =
+      λ was. passes b i next c x.own c.manner (λ e. f.0 (e ∙ f.1.1.1.0.0)) f.1.0.1.0
+  send_exchanged next c (send.Locked (send_locked.WakeReceiver w)) f =
+      λ was. rests b i next c.to.number w (delivered_word c w) (λ from e. cc) refl refl
+  send_exchanged next c (send.Locked send_locked.CommitWait) f =
+      λ was. rests b i next c.caller.number x.own (waiting_word c x.own) (λ from e. cc) refl refl
   send_exchanged next c (send.Locked send_locked.LoadReceiver) f = tt
   send_exchanged next c (send.Locked (send_locked.StoreMail w)) f = tt
   send_exchanged next c (send.Locked send_locked.ReloadReceiver) f = tt
@@ -164,19 +175,34 @@ module _ (g : Programs) (b : Board) (i : ℕ) (x : Context) where
 
   pub receive_exchanged : SendsOutward b.seen → (h : Hand) (c : ReceiveCall) (p : ReceiveAt) →
       AllSay g b i x (facts_receive c p) → Exchanged b i (receive_at c (receive.leads c h p asks.Won)) (receive.ask_of c x.own p)
-  receive_exchanged out h c (receive.Locked (receive_locked.FreeSender e w)) f = λ was. frees b i _ (number_of e) c.caller w (sender_apart out c e w f.1.1.0 was) (here_is b c.caller i f.1.1.1.0 (run_alive _ x.own f.1.1.1.1.1.1.0.0 f.1.1.1.1.1.1.0.1))
-  receive_exchanged out h c (receive.Locked (receive_locked.FreeNext e w)) f = λ was. frees b i _ (number_of e) c.caller w (sender_apart out c e w f.1.1.1.1.1.0 was) (here_is b c.caller i f.1.0 (picks_alive _ x.own f.1.1.1.1.0.1 f.1.1.1.1.0.2))
-  receive_exchanged out h c (receive.Locked receive_locked.CommitWait) f = λ was. (λ from e. begins from cc, λ id at p. inl (present_stays x.own (in_state (state.Receiving c.from) x.own) id refl refl p))
+  receive_exchanged out h c (receive.Locked (receive_locked.FreeSender e w)) f =
+      λ was. frees b i _ (number_of e) c.caller w (sender_apart out c e w f.1.1.0 was)
+      (here_is b c.caller i f.1.1.1.0 (run_alive _ x.own f.1.1.1.1.1.1.0.0 f.1.1.1.1.1.1.0.1))
+  receive_exchanged out h c (receive.Locked (receive_locked.FreeNext e w)) f =
+      λ was. frees b i _ (number_of e) c.caller w (sender_apart out c e w f.1.1.1.1.1.0 was)
+      (here_is b c.caller i f.1.0 (picks_alive _ x.own f.1.1.1.1.0.1 f.1.1.1.1.0.2))
+  receive_exchanged out h c (receive.Locked receive_locked.CommitWait) f =
+      λ was. (
+        λ from e. begins from cc,
+        λ id at p. inl (present_stays x.own
+            (in_state (state.Receiving c.from) x.own) id refl refl p),
+      )
     where
       begins : (from : ThreadId) → c.from ≡ Some from →
-          Came b i (receive_at c (receive.leads c h (receive.Locked receive_locked.CommitWait) asks.Won)) c.caller.number x.own from
-      begins from q = decided f.1.1.0.0 (apart from q) (subst (λ (o : Option ThreadId). Looks from (InReceive c (receive.Locked (after_wait o)))) (sym q) refl)
+          Came b i (receive_at c (receive.leads c h
+          (receive.Locked receive_locked.CommitWait) asks.Won)) c.caller.number x.own from
+      begins from q =
+          decided f.1.1.0.0 (apart from q) (subst (λ (o : Option ThreadId).
+          Looks from (InReceive c (receive.Locked (after_wait o)))) (sym q) refl)
         where
           apart : (from : ThreadId) → c.from ≡ Some from → same_id from (id_at b i) ≡ false
           apart from q = grind (arith, nat_tests, q, f.0.1, f.1.1.0)
-  receive_exchanged out h c (receive.Locked (receive_locked.CommitGone q)) f = λ was. rests b i _ c.caller.number x.own (in_state (state.Run result4.Gone) x.own) (λ from e. cc) refl refl
-  receive_exchanged out h c (receive.Locked (receive_locked.EndPick e w)) f = λ was. rests b i _ c.caller.number x.own (on_in (state.Run result4.Plain) x.own) (λ from e. cc) refl refl
-  receive_exchanged out h c (receive.Locked receive_locked.SettlePick) f = λ was. rests b i _ c.caller.number x.own (on_in (state.Receiving None) x.own) (λ from e. cc) refl refl
+  receive_exchanged out h c (receive.Locked (receive_locked.CommitGone q)) f =
+      λ was. rests b i _ c.caller.number x.own (in_state (state.Run result4.Gone) x.own) (λ from e. cc) refl refl
+  receive_exchanged out h c (receive.Locked (receive_locked.EndPick e w)) f =
+      λ was. rests b i _ c.caller.number x.own (on_in (state.Run result4.Plain) x.own) (λ from e. cc) refl refl
+  receive_exchanged out h c (receive.Locked receive_locked.SettlePick) f =
+      λ was. rests b i _ c.caller.number x.own (on_in (state.Receiving None) x.own) (λ from e. cc) refl refl
   receive_exchanged out h c (receive.Locked receive_locked.LoadOwn) f = tt
   receive_exchanged out h c (receive.Locked (receive_locked.LoadSender e)) f = tt
   receive_exchanged out h c (receive.Locked (receive_locked.AcquireReady e)) f = tt
@@ -191,7 +217,8 @@ module _ (g : Programs) (b : Board) (i : ℕ) (x : Context) where
   receive_exchanged out h c (receive.Pushing (receive_pushing.PushFreed e w)) f = tt
 
   pub create_exchanged : (next : At) (c : CreateCall) (p : CreateAt) → Exchanged b i next (create.ask_of c x.own p)
-  create_exchanged next c (create.Locked (create_locked.CommitCreate id)) = λ was. (λ from e. absurd cc, λ d at p. absurd (dead_absent (id.version - 1) d p))
+  create_exchanged next c (create.Locked (create_locked.CommitCreate id)) =
+      λ was. (λ from e. absurd cc, λ d at p. absurd (dead_absent (id.version - 1) d p))
   create_exchanged next c (create.Locked create_locked.LoadCaller) = tt
   create_exchanged next c (create.Locked (create_locked.PlaceContext id)) = tt
   create_exchanged next c (create.Locked (create_locked.AcquireReady id)) = tt
@@ -212,7 +239,8 @@ module _ (g : Programs) (b : Board) (i : ℕ) (x : Context) where
       ahead = λ t. first_ahead h.queue.entries t;
     },
   )
-  destroy_exchanged h c (destroy.Victim (victim.FreeSender n w)) f = λ was. rests b i _ n w (freed_word w) (λ from e. cc) refl refl
+  destroy_exchanged h c (destroy.Victim (victim.FreeSender n w)) f =
+      λ was. rests b i _ n w (freed_word w) (λ from e. cc) refl refl
   destroy_exchanged h c (destroy.Visit (visit.FreeVisited n w)) f = λ was. rests b i _ n w (freed_word w) (λ from e. cc) refl refl
   destroy_exchanged h c (destroy.Victim victim.LoadVictim) f = tt
   destroy_exchanged h c (destroy.Victim (victim.LoadSender n)) f = tt
@@ -237,7 +265,8 @@ module _ (g : Programs) (b : Board) (i : ℕ) (x : Context) where
 
   pub alone_exchanged : (next : At) (me : ThreadId) (p : ThreadLocation) → Exchanged b i next (alone.ask_of me x.own p)
   alone_exchanged next me location.FallAsleep = λ was. (λ from e. waited e, λ id at p. inl p)
-  alone_exchanged next me location.CommitEnd = λ was. rests b i next me.number x.own (alone.ended_word x.own) (λ from e. cc) refl refl
+  alone_exchanged next me location.CommitEnd =
+      λ was. rests b i next me.number x.own (alone.ended_word x.own) (λ from e. cc) refl refl
   alone_exchanged next me location.LookAgain = tt
   alone_exchanged next me (location.LoadMail from) = tt
   alone_exchanged next me (location.Work count) = tt

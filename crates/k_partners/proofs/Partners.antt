@@ -29,7 +29,8 @@ use Rattle.k_board.specs.Boots.{Booted, has_carrier, has_none, has_thread}
 use Rattle.k_board.specs.Facts.{AllSay}
 use Rattle.k_board.specs.Places.{PlacesHold, facts_of}
 use Rattle.k_board.specs.Steps.{Answers, destroy_board, destroy_context, destroy_contexts, destroy_number}
-use Rattle.k_board.specs.Turns.{Supports, Turn, sends, receives, creates, destroys, goes_alone, begins, turns_to_work, wakes, switches, begins_switch, ends_switch}
+use Rattle.k_board.specs.Turns.{Supports, Turn, sends, receives, creates, destroys, goes_alone}
+use Rattle.k_board.specs.Turns.{begins, turns_to_work, wakes, switches, begins_switch, ends_switch}
 use Rattle.k_board.proofs.Turning.{turn_changes, turn_leaves}
 use Rattle.k_good.specs.Good.{IsGood, QueuesTell}
 use Rattle.k_good.specs.Locks.{locks_at}
@@ -44,7 +45,9 @@ receives_alive : (w : StateWord) (from : ThreadId) → w.state ≡ state.Receivi
 receives_alive w from q = grind arith
 
 receives_only : (s : State) (who from : ThreadId) → who ≡ from → s ≡ state.Receiving (Some from) → is_receiving_from who s ≡ true
-receives_only s who from e q = subst (λ (k : State). is_receiving_from who k ≡ true) (sym q) (subst (λ (id : ThreadId). same_id id who ≡ true) e (same_self who))
+receives_only s who from e q =
+    subst (λ (k : State). is_receiving_from who k ≡ true) (sym q)
+    (subst (λ (id : ThreadId). same_id id who ≡ true) e (same_self who))
   where
     same_self : (id : ThreadId) → same_id id id ≡ true
     same_self id = grind (arith, nat_tests)
@@ -72,7 +75,8 @@ module _ (g : Programs) (b : Board) (i : ℕ) (good : IsGood g b) (within : IsWi
   -- where a destroy stands that is still to visit a number, its context has the table lock
   owns_table : (b' : Board) → IsGood g b' → (k : ℕ) (c : DestroyCall) (p : DestroyAt) (t : ℕ) →
       (b'.context k).at ≡ InDestroy c p → is_ahead p t ≡ true → b'.table ≡ Some k
-  owns_table b' good' k c p t at a = good'.locks.named lock.Table k (subst (λ (q : At). Holds lock.Table (locks_at q)) (sym at) (ahead_owns c p t a))
+  owns_table b' good' k c p t at a =
+      good'.locks.named lock.Table k (subst (λ (q : At). Holds lock.Table (locks_at q)) (sym at) (ahead_owns c p t a))
 
   module _ (from : ThreadId) (t : ℕ) (q : ReceivesFrom b t from) where
     -- the destroy's own step
@@ -87,10 +91,13 @@ module _ (g : Programs) (b : Board) (i : ℕ) (good : IsGood g b) (within : IsWi
         let alive = receives_alive (b.seen t).word from q in
         let who' = ap (λ (k : DestroyCall). k.who) ec ∙ who in
         let apart = dead_apart b t c.who.number alive dead.0.1 in
-        let below = subst (λ (n : ℕ). t < n) (within.count ∙ sym (target_at i (InDestroy c p) at).1) (below_size b i c p t good.numbers o at apart alive) in
+        let below = subst (λ (n : ℕ). t < n) (within.count ∙ sym (target_at i (InDestroy c p) at).1)
+        (below_size b i c p t good.numbers o at apart alive) in
         let h = hand_of b (b.queue (destroy_number c p)) in
-        let ahead = ahead_goes g b i (b.context i) c t apart below h p r an f (receives_only (b.seen t).word.state c.who from who' q) here in
-        let stands = ap (λ (y : Context). y.at) (upd_same (destroy_contexts c p r b.context) i (destroy_context (b.context i) c p r h)) ∙ ahead_stands c (destroy.leads c h p r) t ahead in
+        let ahead = ahead_goes g b i (b.context i) c t apart below h p r an f
+        (receives_only (b.seen t).word.state c.who from who' q) here in
+        let stands = ap (λ (y : Context). y.at) (upd_same (destroy_contexts c p r b.context) i
+        (destroy_context (b.context i) c p r h)) ∙ ahead_stands c (destroy.leads c h p r) t ahead in
         record {
           by = i;
           call = c;
@@ -109,7 +116,8 @@ module _ (g : Programs) (b : Board) (i : ℕ) (good : IsGood g b) (within : IsWi
 
     owner_frees : (b' : Board) → Turn g b i b' → IsGood g b' → (call : DestroyCall) (location : DestroyAt) → b.table ≡ Some i →
         (b.context i).at ≡ InDestroy call location → call.who ≡ from → is_ahead location t ≡ true → Frees b' from t
-    owner_frees _ (destroys c p r at an) good' call location o st who a = own_frees c call p location r at an good' o (call_is (sym at ∙ st)) (place_is (sym at ∙ st)) who a
+    owner_frees _ (destroys c p r at an) good' call location o st who a =
+        own_frees c call p location r at an good' o (call_is (sym at ∙ st)) (place_is (sym at ∙ st)) who a
     owner_frees _ (sends c p r at an) good' call location o st who a = absurd cc
     owner_frees _ (receives c p r at an) good' call location o st who a = absurd cc
     owner_frees _ (creates c p r at an) good' call location o st who a = absurd cc
@@ -123,12 +131,17 @@ module _ (g : Programs) (b : Board) (i : ℕ) (good : IsGood g b) (within : IsWi
 
     turn_frees : (b' : Board) → Turn g b i b' → IsGood g b' → Frees b from t → Frees b' from t
     turn_frees b' turn good' f = elim (eqb_tells f.by i) [
-      | inl e ↦ owner_frees b' turn good' f.call f.location (f.owns ∙ ap (λ (k : ℕ). Some k) e.1) (ap (λ (k : ℕ). (b.context k).at) (sym e.1) ∙ f.stands) f.victim f.ahead
+      | inl e ↦
+          owner_frees b' turn good' f.call f.location (f.owns ∙ ap (λ (k : ℕ). Some k) e.1)
+          (ap (λ (k : ℕ). (b.context k).at) (sym e.1) ∙ f.stands) f.victim f.ahead
       | inr ne ↦ other ne.1
     ]
       where
         alive : is_dead (b.seen f.by).word ≡ false
-        alive = let k = ahead_facts g b f.by (b.context f.by) f.call f.location t f.ahead (facts_at f.by (InDestroy f.call f.location) f.stands) in run_alive (b.seen f.by).word (b.context f.by).own k.1.1.1.1.1.0.0 k.1.1.1.1.1.0.1
+        alive =
+            let k = ahead_facts g b f.by (b.context f.by) f.call f.location t f.ahead
+            (facts_at f.by (InDestroy f.call f.location) f.stands) in
+            run_alive (b.seen f.by).word (b.context f.by).own k.1.1.1.1.1.0.0 k.1.1.1.1.1.0.1
 
         other : f.by ≢ i → Frees b' from t
         other ne = record {
@@ -142,7 +155,10 @@ module _ (g : Programs) (b : Board) (i : ℕ) (good : IsGood g b) (within : IsWi
         }
 
   pub partners_keep : PartnersHold b → (b' : Board) → Turn g b i b' → PartnersHold b'
-  partners_keep h b' turn = record { other = other; there = λ t from q. there t from q (cases_Bool (is_present_in (b'.seen from.number).word from)) }
+  partners_keep h b' turn = record {
+    other = other;
+    there = λ t from q. there t from q (cases_Bool (is_present_in (b'.seen from.number).word from));
+  }
     where
       good' : IsGood g b'
       good' = good_keeps g b b' i good tells turn
@@ -156,14 +172,24 @@ module _ (g : Programs) (b : Board) (i : ℕ) (good : IsGood g b) (within : IsWi
           by : Came b i (b'.context i).at t (b.seen t).word from → same_id from (id_at b' t) ≡ false
           by (waited e) = same_version b b' t from (version t from q) (h.other t from e)
           by (went_to th ne) = apart_number from b' t ne
-          by (decided e unlike l) = same_version b b' t from (version t from q) (subst (λ (n : ℕ). same_id from (id_at b n) ≡ false) (sym e) unlike)
+          by (decided e unlike l) =
+              same_version b b' t from (version t from q) (subst (λ (n : ℕ). same_id from (id_at b n) ≡ false) (sym e) unlike)
 
       -- it was there before, and was killed
       killed : (t : ℕ) (from : ThreadId) → is_present_in (b'.seen from.number).word from ≡ false → IsThere b from →
           Frees b' from t
       killed t from gone th = elim ((turn_came g b i good.places good.outward b' turn from.number).1 from refl th) [
         | inl y ↦ absurd (true_not y gone)
-        | inr k ↦ record { by = i; call = k.call; location = k.location; owns = owns_table b' good' i k.call k.location t k.stands (k.ahead t); stands = k.stands; victim = k.victim; ahead = k.ahead t }
+        | inr k ↦
+            record {
+              by = i;
+              call = k.call;
+              location = k.location;
+              owns = owns_table b' good' i k.call k.location t k.stands (k.ahead t);
+              stands = k.stands;
+              victim = k.victim;
+              ahead = k.ahead t;
+            }
       ]
 
       -- it wasn't there before
@@ -175,8 +201,13 @@ module _ (g : Programs) (b : Board) (i : ℕ) (good : IsGood g b) (within : IsWi
         | inl th ↦ absurd (gone th)
         | inr (inr f) ↦ inr (turn_frees from t e b' turn good' f)
         | inr (inl l) ↦ inl (elim (eqb_tells t i) [
-          | inl k ↦ subst (λ (n : ℕ). Looks from (b'.context n).at) (sym k.1) (turn_looks g b i good.places from gone b' turn (subst (λ (n : ℕ). Looks from (b.context n).at) k.1 l) (subst (λ (n : ℕ). ReceivesFrom b' n from) k.1 q))
-          | inr k ↦ subst (λ (y : Context). Looks from y.at) (sym (context_stays g b i good.places t (receives_alive (b.seen t).word from e) b' turn k.1)) l
+          | inl k ↦
+              subst (λ (n : ℕ). Looks from (b'.context n).at) (sym k.1)
+              (turn_looks g b i good.places from gone b' turn (subst (λ (n : ℕ). Looks from (b.context n).at) k.1 l)
+              (subst (λ (n : ℕ). ReceivesFrom b' n from) k.1 q))
+          | inr k ↦
+              subst (λ (y : Context). Looks from y.at) (sym (context_stays g b i good.places t
+              (receives_alive (b.seen t).word from e) b' turn k.1)) l
         ])
       ]
 
@@ -202,7 +233,10 @@ none_at g b n from (has_none d e) q = dead_deaf (b.seen n).word from d q
 none_at g b n from (has_carrier d e) q = dead_deaf (b.seen n).word from d q
 
 pub partners_start : (g : Programs) (b : Board) → ((n : ℕ) → Booted g b n) → PartnersHold b
-partners_start g b h = record { other = λ t from q. absurd (none_at g b t from (h t) q); there = λ t from q. absurd (none_at g b t from (h t) q) }
+partners_start g b h = record {
+  other = λ t from q. absurd (none_at g b t from (h t) q);
+  there = λ t from q. absurd (none_at g b t from (h t) q);
+}
 
 pub partners_meet : (b : Board) (t : ℕ) (from : ThreadId) → PartnersHold b → b.table ≡ None → (Looks from (b.context t).at → ⊥) →
     ReceivesFrom b t from → IsThere b from
@@ -237,7 +271,9 @@ partners_left g b i t c good h at q =
     elim (h.there t c.who q) [
       | inl th ↦ absurd (dead_not_there b c.who f.0.1 th)
       | inr (inl l) ↦ l
-      | inr (inr k) ↦ absurd (released_ahead c k.call (destroy.Locked (destroy_locked.Release destroy_release.Killed)) k.location t (sym k.stands ∙ (ap (λ (n : ℕ). (b.context n).at) (one_owner k.owns f.0.0) ∙ at)) refl k.ahead)
+      | inr (inr k) ↦
+          absurd (released_ahead c k.call (destroy.Locked (destroy_locked.Release destroy_release.Killed)) k.location t
+          (sym k.stands ∙ (ap (λ (n : ℕ). (b.context n).at) (one_owner k.owns f.0.0) ∙ at)) refl k.ahead)
     ]
 
 pub none_own : (b : Board) (t : ℕ) → PartnersHold b → ReceivesFrom b t (id_at b t) → ⊥
@@ -254,7 +290,8 @@ number_looks g b t from good h q e = elim (h.there t from q) [
   | inr (inr k) ↦
       let f = subst (λ (p : At). AllSay g b k.by (b.context k.by) (facts_of p)) k.stands (good.places k.by) in
       let dead = (ahead_facts g b k.by (b.context k.by) k.call k.location t k.ahead f).0.1 in
-      absurd (true_not (ap (λ (n : ℕ). is_dead (b.seen n).word) (sym (ap (λ (id : ThreadId). id.number) k.victim ∙ e)) ∙ dead) (receives_alive (b.seen t).word from q))
+      absurd (true_not (ap (λ (n : ℕ). is_dead (b.seen n).word) (sym (ap (λ (id : ThreadId). id.number) k.victim ∙ e)) ∙ dead)
+      (receives_alive (b.seen t).word from q))
 ]
 
 -- the one to come has a number without a thread, and it is a create that owns the table lock

@@ -31,14 +31,19 @@ use Rattle.k_board.specs.Words.{Programs, Seen, noted}
 use Rattle.k_board.specs.Boards.{At, InCreate, InDestroy, InReceive, InSend, Context, Board, hand_of, id_at}
 use Rattle.k_board.specs.Facts.{AllSay}
 use Rattle.k_board.specs.Places.{PlacesHold, facts_create, facts_destroy, facts_of, facts_receive}
-use Rattle.k_board.specs.Moves.{Change, same, calls, settles, passes, delivers, takes, joins, frees_sender, frees_receiver, kills, makes, leaves, posts}
-use Rattle.k_board.specs.Steps.{Answers, create_board, create_context, create_contexts, destroy_board, destroy_context, destroy_contexts, destroy_number, receive_at, receive_board, receive_context, send_board, send_context, wrote}
-use Rattle.k_board.specs.Turns.{Turn, sends, receives, creates, destroys, goes_alone, begins, turns_to_work, wakes, switches, begins_switch, ends_switch}
+use Rattle.k_board.specs.Moves.{Change, same, calls, settles, passes, delivers, takes, joins}
+use Rattle.k_board.specs.Moves.{frees_sender, frees_receiver, kills, makes, leaves, posts}
+use Rattle.k_board.specs.Steps.{Answers, create_board, create_context, create_contexts, destroy_board}
+use Rattle.k_board.specs.Steps.{destroy_context, destroy_contexts, destroy_number, receive_at}
+use Rattle.k_board.specs.Steps.{receive_board, receive_context, send_board, send_context, wrote}
+use Rattle.k_board.specs.Turns.{Turn, sends, receives, creates, destroys, goes_alone, begins}
+use Rattle.k_board.specs.Turns.{turns_to_work, wakes, switches, begins_switch, ends_switch}
 use Rattle.k_board.proofs.Cases.{if_cases}
 use Rattle.k_good.specs.Outward.{SendsOutward}
 use Rattle.k_good.proofs.Words.{IsWritten, word_after}
 use Rattle.k_partners.specs.Partners.{IsThere, Looks, ReceivesFrom}
-use Rattle.k_partners.proofs.Came.{Begins, Exchanged, Stays, alone_exchanged, create_exchanged, destroy_exchanged, receive_exchanged, send_exchanged, waited}
+use Rattle.k_partners.proofs.Came.{Begins, Exchanged, Stays, alone_exchanged, create_exchanged}
+use Rattle.k_partners.proofs.Came.{destroy_exchanged, receive_exchanged, send_exchanged, waited}
 
 -- the version of a thread that receives from one
 pub version_stays : (b : Board) (i t : ℕ) (v : Seen) (from : ThreadId) → Change b i t v →
@@ -69,7 +74,9 @@ unchanged b i next t w e = subst (λ (u : StateWord). Both b i next t u) (sym e)
 
 written : (b : Board) (i : ℕ) (next : At) (a : Ask) (r : Response) (t : ℕ) (w : StateWord) →
     (r ≡ asks.Won → Exchanged b i next a) → IsWritten b a r t w → Both b i next t w
-written b i next a r t w h k = subst (λ (old : StateWord). Begins b i next t old w × Stays next t old w) (sym k.was) (subst (λ (q : Ask). Exchanged b i next q) k.asked (h k.won) k.was)
+written b i next a r t w h k =
+    subst (λ (old : StateWord). Begins b i next t old w × Stays next t old w) (sym k.was)
+    (subst (λ (q : Ask). Exchanged b i next q) k.asked (h k.won) k.was)
 
 by_exchange : (g : Programs) (b : Board) (i : ℕ) (next : At) (at : Position) (p : Option Point) (a : Ask) (r : Response) →
     Answers b a r → (r ≡ asks.Won → Exchanged b i next a) → (t : ℕ) → Both b i next t (wrote (noted g b.seen at p) a r t).word
@@ -92,20 +99,37 @@ module _ (g : Programs) (b : Board) (i : ℕ) (f : PlacesHold g b) where
   turn_came out _ (sends c p r at an) t =
       let x = send_context (b.context i) c p r (hand_of b (b.queue c.to.number)) in
       subst (λ (y : Context). Both b i y.at t ((send_board g b i (b.context i) c p r).seen t).word) (sym (upd_same b.context i x))
-      (by_exchange g b i x.at (b.context i).position (send.points c (b.seen i).word (hand_of b (b.queue c.to.number)) p r) (send.ask_of c (b.context i).own p) r an (λ won. send_exchanged g b i (b.context i) x.at c p (facts_at (InSend c p) at)) t)
+      (by_exchange g b i x.at (b.context i).position (send.points c (b.seen i).word (hand_of b (b.queue c.to.number)) p r)
+      (send.ask_of c (b.context i).own p) r an (λ won. send_exchanged g b i (b.context i) x.at c p
+      (facts_at (InSend c p) at)) t)
   turn_came out _ (receives c p r at an) t =
       let x = receive_context (b.context i) c p r (hand_of b (b.queue i)) in
-      subst (λ (y : Context). Both b i y.at t ((receive_board g b i (b.context i) c p r).seen t).word) (sym (upd_same b.context i x))
-      (by_exchange g b i x.at (b.context i).position (receive.points c (b.seen i).word (hand_of b (b.queue i)) p r) (receive.ask_of c (b.context i).own p) r an (λ won. subst (λ (q : Response). Exchanged b i (receive_context (b.context i) c p q (hand_of b (b.queue i))).at (receive.ask_of c (b.context i).own p)) (sym won) (receive_exchanged g b i (b.context i) out (hand_of b (b.queue i)) c p (facts_at (InReceive c p) at))) t)
+      subst (λ (y : Context). Both b i y.at t ((receive_board g b i (b.context i) c p r).seen t).word)
+      (sym (upd_same b.context i x))
+      (by_exchange g b i x.at (b.context i).position (receive.points c (b.seen i).word (hand_of b (b.queue i)) p r)
+      (receive.ask_of c (b.context i).own p) r an (λ won.
+      subst (λ (q : Response). Exchanged b i (receive_context (b.context i) c p q (hand_of b (b.queue i))).at
+      (receive.ask_of c (b.context i).own p)) (sym won) (receive_exchanged g b i (b.context i) out (hand_of b (b.queue i)) c p
+      (facts_at (InReceive c p) at))) t)
   turn_came out _ (creates c p r at an) t =
       let x = create_context (b.context i) c p r (hand_of b []) in
-      subst (λ (y : Context). Both b i y.at t ((create_board g b i (b.context i) c p r).seen t).word) (sym (upd_same (create_contexts g c p r b.context) i x))
-      (by_exchange g b i x.at (b.context i).position (create.points c (b.seen i).word (hand_of b []) p r) (create.ask_of c (b.context i).own p) r an (λ won. create_exchanged g b i (b.context i) x.at c p) t)
+      subst (λ (y : Context). Both b i y.at t ((create_board g b i (b.context i) c p r).seen t).word)
+      (sym (upd_same (create_contexts g c p r b.context) i x))
+      (by_exchange g b i x.at (b.context i).position (create.points c (b.seen i).word (hand_of b []) p r)
+      (create.ask_of c (b.context i).own p) r an (λ won. create_exchanged g b i (b.context i) x.at c p) t)
   turn_came out _ (destroys c p r at an) t =
       let x = destroy_context (b.context i) c p r (hand_of b (b.queue (destroy_number c p))) in
-      subst (λ (y : Context). Both b i y.at t ((destroy_board g b i (b.context i) c p r).seen t).word) (sym (upd_same (destroy_contexts c p r b.context) i x))
-      (by_exchange g b i x.at (b.context i).position (destroy.points c (b.seen i).word (hand_of b (b.queue (destroy_number c p))) p r) (destroy.ask_of c (b.context i).own p) r an (λ won. subst (λ (q : Response). Exchanged b i (destroy_context (b.context i) c p q (hand_of b (b.queue (destroy_number c p)))).at (destroy.ask_of c (b.context i).own p)) (sym won) (destroy_exchanged g b i (b.context i) (hand_of b (b.queue (destroy_number c p))) c p (facts_at (InDestroy c p) at))) t)
-  turn_came out b' (goes_alone p r at can an) t = by_exchange g b i (b'.context i).at (b.context i).position (alone.points (id_at b i) p r) (alone.ask_of (id_at b i) (b.context i).own p) r an (λ won. alone_exchanged g b i (b.context i) (b'.context i).at (id_at b i) p) t
+      subst (λ (y : Context). Both b i y.at t ((destroy_board g b i (b.context i) c p r).seen t).word)
+      (sym (upd_same (destroy_contexts c p r b.context) i x))
+      (by_exchange g b i x.at (b.context i).position (destroy.points c (b.seen i).word
+      (hand_of b (b.queue (destroy_number c p))) p r) (destroy.ask_of c (b.context i).own p) r an
+      (λ won. subst (λ (q : Response). Exchanged b i (destroy_context (b.context i) c p q
+      (hand_of b (b.queue (destroy_number c p)))).at (destroy.ask_of c (b.context i).own p)) (sym won)
+      (destroy_exchanged g b i (b.context i) (hand_of b (b.queue (destroy_number c p))) c p (facts_at (InDestroy c p) at))) t)
+  turn_came out b' (goes_alone p r at can an) t =
+      by_exchange g b i (b'.context i).at (b.context i).position (alone.points (id_at b i) p r)
+      (alone.ask_of (id_at b i) (b.context i).own p) r an (λ won.
+      alone_exchanged g b i (b.context i) (b'.context i).at (id_at b i) p) t
   turn_came out b' (begins l q at e) t = unchanged b i _ t _ refl
   turn_came out b' (turns_to_work l count at e) t = unchanged b i _ t _ refl
   turn_came out b' (wakes at) t = unchanged b i _ t _ refl
@@ -117,20 +141,27 @@ module _ (g : Programs) (b : Board) (i : ℕ) (f : PlacesHold g b) where
   module _ (t : ℕ) (alive : is_dead (b.seen t).word ≡ false) where
     create_stays : (c : CreateCall) (p : CreateAt) (r : Response) → AllSay g b i (b.context i) (facts_create c p) →
         create_contexts g c p r b.context t ≡ b.context t
-    create_stays c (create.Locked (create_locked.PlaceContext id)) asks.Placed h = upd_other b.context id.number _ t (λ e. true_not (ap (λ (n : ℕ). is_dead (b.seen n).word) e ∙ dead_only _ _ h.1.1.1.1.1.1.0.1) alive)
-    create_stays c (create.Locked (create_locked.CommitCreate id)) asks.Won h = upd_other b.context id.number _ t (λ e. true_not (ap (λ (n : ℕ). is_dead (b.seen n).word) e ∙ dead_only _ _ h.1.1.1.1.1.1.0.1) alive)
+    create_stays c (create.Locked (create_locked.PlaceContext id)) asks.Placed h =
+        upd_other b.context id.number _ t (λ e. true_not (ap (λ (n : ℕ). is_dead (b.seen n).word) e
+        ∙ dead_only _ _ h.1.1.1.1.1.1.0.1) alive)
+    create_stays c (create.Locked (create_locked.CommitCreate id)) asks.Won h =
+        upd_other b.context id.number _ t (λ e. true_not (ap (λ (n : ℕ). is_dead (b.seen n).word) e
+        ∙ dead_only _ _ h.1.1.1.1.1.1.0.1) alive)
     create_stays c p r h = refl
 
     destroy_stays : (c : DestroyCall) (p : DestroyAt) (r : Response) → AllSay g b i (b.context i) (facts_destroy c p) →
         destroy_contexts c p r b.context t ≡ b.context t
-    destroy_stays c (destroy.Locked destroy_locked.RemoveContext) asks.Removed h = upd_other b.context c.who.number _ t (λ e. true_not (ap (λ (n : ℕ). is_dead (b.seen n).word) e ∙ h.0.1) alive)
+    destroy_stays c (destroy.Locked destroy_locked.RemoveContext) asks.Removed h =
+        upd_other b.context c.who.number _ t (λ e. true_not (ap (λ (n : ℕ). is_dead (b.seen n).word) e ∙ h.0.1) alive)
     destroy_stays c p r h = refl
 
     pub context_stays : (b' : Board) → Turn g b i b' → t ≢ i → b'.context t ≡ b.context t
     context_stays _ (sends c p r at an) ne = upd_other b.context i _ t ne
     context_stays _ (receives c p r at an) ne = upd_other b.context i _ t ne
-    context_stays _ (creates c p r at an) ne = upd_other (create_contexts g c p r b.context) i _ t ne ∙ create_stays c p r (facts_at (InCreate c p) at)
-    context_stays _ (destroys c p r at an) ne = upd_other (destroy_contexts c p r b.context) i _ t ne ∙ destroy_stays c p r (facts_at (InDestroy c p) at)
+    context_stays _ (creates c p r at an) ne =
+        upd_other (create_contexts g c p r b.context) i _ t ne ∙ create_stays c p r (facts_at (InCreate c p) at)
+    context_stays _ (destroys c p r at an) ne =
+        upd_other (destroy_contexts c p r b.context) i _ t ne ∙ destroy_stays c p r (facts_at (InDestroy c p) at)
     context_stays _ (goes_alone p r at can an) ne = upd_other b.context i _ t ne
     context_stays _ (begins l q at e) ne = upd_other b.context i _ t ne
     context_stays _ (turns_to_work l count at e) ne = upd_other b.context i _ t ne
@@ -144,7 +175,10 @@ module _ (g : Programs) (b : Board) (i : ℕ) (f : PlacesHold g b) where
       Answers b (receive.ask_of c (b.context i).own (receive.Locked (receive_locked.CommitGone id))) r →
       AllSay g b i (b.context i) (facts_receive c (receive.Locked (receive_locked.CommitGone id))) →
       ReceivesFrom (receive_board g b i (b.context i) c (receive.Locked (receive_locked.CommitGone id)) r) i from → ⊥
-  found_gone c id from asks.Won an h q = ends (sym (ap (λ (u : Seen). u.word.state) (ap (λ (n : ℕ). (receive_board g b i (b.context i) c (receive.Locked (receive_locked.CommitGone id)) asks.Won).seen n) (sym h.0.0) ∙ upd_same _ c.caller.number _)) ∙ q)
+  found_gone c id from asks.Won an h q =
+      ends (sym (ap (λ (u : Seen). u.word.state)
+      (ap (λ (n : ℕ). (receive_board g b i (b.context i) c (receive.Locked (receive_locked.CommitGone id)) asks.Won).seen n)
+      (sym h.0.0) ∙ upd_same _ c.caller.number _)) ∙ q)
     where
       ends : {s : _} → state.Run s ≡ state.Receiving (Some from) → ⊥
       ends e = cc
@@ -157,7 +191,10 @@ module _ (g : Programs) (b : Board) (i : ℕ) (f : PlacesHold g b) where
         AllSay g b i (b.context i) (facts_receive c p) → Looks from (InReceive c p) →
         ReceivesFrom (receive_board g b i (b.context i) c p r) i from →
         Looks from (receive_at c (receive.leads c (hand_of b (b.queue i)) p r))
-    receive_looks c (receive.Locked (receive_locked.LoadPartner id)) (asks.Word w) an h l q = if_cases (λ (p : ReceiveLocked). Looks from (InReceive c (receive.Locked p))) (is_present_in w id) (receive_locked.Release returns.Waits) (receive_locked.CommitGone id) (λ e. absurd (gone (subst (IsThere b) l (ap (λ (u : StateWord). is_present_in u id) an ∙ e)))) (λ e. l)
+    receive_looks c (receive.Locked (receive_locked.LoadPartner id)) (asks.Word w) an h l q =
+        if_cases (λ (p : ReceiveLocked). Looks from (InReceive c (receive.Locked p))) (is_present_in w id)
+        (receive_locked.Release returns.Waits) (receive_locked.CommitGone id)
+        (λ e. absurd (gone (subst (IsThere b) l (ap (λ (u : StateWord). is_present_in u id) an ∙ e)))) (λ e. l)
     receive_looks c (receive.Locked (receive_locked.CommitGone id)) r an h l q = absurd (found_gone c id from r an h q)
     receive_looks c (receive.Locked receive_locked.LoadOwn) r an h l q = absurd l
     receive_looks c (receive.Locked (receive_locked.LoadSender e)) r an h l q = absurd l
@@ -179,7 +216,9 @@ module _ (g : Programs) (b : Board) (i : ℕ) (f : PlacesHold g b) where
 
     pub turn_looks : (b' : Board) → Turn g b i b' → Looks from (b.context i).at → ReceivesFrom b' i from →
         Looks from (b'.context i).at
-    turn_looks _ (receives c p r at an) l q = subst (λ (y : Context). Looks from y.at) (sym (upd_same b.context i _)) (receive_looks c p r an (facts_at (InReceive c p) at) (subst (Looks from) at l) q)
+    turn_looks _ (receives c p r at an) l q =
+        subst (λ (y : Context). Looks from y.at) (sym (upd_same b.context i _))
+        (receive_looks c p r an (facts_at (InReceive c p) at) (subst (Looks from) at l) q)
     turn_looks _ (sends c p r at an) l q = absurd (none_at _ _ at (λ k. k) l)
     turn_looks _ (creates c p r at an) l q = absurd (none_at _ _ at (λ k. k) l)
     turn_looks _ (destroys c p r at an) l q = absurd (none_at _ _ at (λ k. k) l)
@@ -202,21 +241,32 @@ place_is e = cc
 module _ (g : Programs) (b : Board) (i : ℕ) (c : ReceiveCall) (from : ThreadId) where
   loads_partner : (IsThere b from → ⊥) → (r : Response) →
       Answers b (receive.ask_of c (b.context i).own (receive.Locked (receive_locked.LoadPartner from))) r →
-      receive.leads c (hand_of b (b.queue i)) (receive.Locked (receive_locked.LoadPartner from)) r ≡ receive.Locked (receive_locked.CommitGone from)
-  loads_partner gone (asks.Word w) an = if_cases (λ (p : ReceiveLocked). receive.Locked p ≡ receive.Locked (receive_locked.CommitGone from)) (is_present_in w from) (receive_locked.Release returns.Waits) (receive_locked.CommitGone from) (λ e. absurd (gone (ap (λ (u : StateWord). is_present_in u from) an ∙ e))) (λ e. refl)
+      receive.leads c (hand_of b (b.queue i)) (receive.Locked (receive_locked.LoadPartner from)) r ≡
+      receive.Locked (receive_locked.CommitGone from)
+  loads_partner gone (asks.Word w) an =
+      if_cases (λ (p : ReceiveLocked). receive.Locked p ≡ receive.Locked (receive_locked.CommitGone from)) (is_present_in w from)
+      (receive_locked.Release returns.Waits) (receive_locked.CommitGone from)
+      (λ e. absurd (gone (ap (λ (u : StateWord). is_present_in u from) an ∙ e))) (λ e. refl)
   loads_partner gone r an = absurd an
 
   looked : (IsThere b from → ⊥) → (d : ReceiveCall) (p : ReceiveAt) (r : Response) → d ≡ c →
       p ≡ receive.Locked (receive_locked.LoadPartner from) → Answers b (receive.ask_of d (b.context i).own p) r →
-      (receive_context (b.context i) d p r (hand_of b (b.queue i))).at ≡ InReceive c (receive.Locked (receive_locked.CommitGone from))
+      (receive_context (b.context i) d p r (hand_of b (b.queue i))).at ≡
+      InReceive c (receive.Locked (receive_locked.CommitGone from))
   looked gone d p r ed ep an =
-      let here : Answers b (receive.ask_of c (b.context i).own (receive.Locked (receive_locked.LoadPartner from))) r = subst (λ (x : ReceiveCall). Answers b (receive.ask_of x (b.context i).own (receive.Locked (receive_locked.LoadPartner from))) r) ed (subst (λ (x : ReceiveAt). Answers b (receive.ask_of d (b.context i).own x) r) ep an) in
-      ap (λ (x : ReceiveCall). (receive_context (b.context i) x p r (hand_of b (b.queue i))).at) ed ∙ (ap (λ (x : ReceiveAt). (receive_context (b.context i) c x r (hand_of b (b.queue i))).at) ep ∙ ap (receive_at c) (loads_partner gone r here))
+      let here : Answers b (receive.ask_of c (b.context i).own (receive.Locked (receive_locked.LoadPartner from))) r =
+      subst (λ (x : ReceiveCall). Answers b (receive.ask_of x (b.context i).own
+      (receive.Locked (receive_locked.LoadPartner from))) r) ed
+      (subst (λ (x : ReceiveAt). Answers b (receive.ask_of d (b.context i).own x) r) ep an) in
+      ap (λ (x : ReceiveCall). (receive_context (b.context i) x p r (hand_of b (b.queue i))).at) ed
+      ∙ (ap (λ (x : ReceiveAt). (receive_context (b.context i) c x r (hand_of b (b.queue i))).at) ep
+      ∙ ap (receive_at c) (loads_partner gone r here))
 
   pub turn_looked : (b' : Board) → Turn g b i b' → (IsThere b from → ⊥) →
       (b.context i).at ≡ InReceive c (receive.Locked (receive_locked.LoadPartner from)) →
       (b'.context i).at ≡ InReceive c (receive.Locked (receive_locked.CommitGone from))
-  turn_looked _ (receives d p r at an) gone st = ap (λ (y : Context). y.at) (upd_same b.context i _) ∙ looked gone d p r (call_is (sym at ∙ st)) (place_is (sym at ∙ st)) an
+  turn_looked _ (receives d p r at an) gone st =
+      ap (λ (y : Context). y.at) (upd_same b.context i _) ∙ looked gone d p r (call_is (sym at ∙ st)) (place_is (sym at ∙ st)) an
   turn_looked _ (sends d p r at an) gone st = absurd cc
   turn_looked _ (creates d p r at an) gone st = absurd cc
   turn_looked _ (destroys d p r at an) gone st = absurd cc
@@ -232,7 +282,9 @@ module _ (g : Programs) (b : Board) (i : ℕ) (c : ReceiveCall) (from : ThreadId
       (b.context i).at ≡ InReceive d p → p ≡ receive.Locked (receive_locked.CommitGone from) →
       Answers b (receive.ask_of d (b.context i).own p) r → ReceivesFrom (receive_board g b i (b.context i) d p r) i other → ⊥
   ended f d p r other at ep an q =
-      found_gone g b i f d from other r (subst (λ (x : ReceiveAt). Answers b (receive.ask_of d (b.context i).own x) r) ep an) (subst (λ (x : At). AllSay g b i (b.context i) (facts_of x)) (at ∙ ap (InReceive d) ep) (f i)) (subst (λ (x : ReceiveAt). ReceivesFrom (receive_board g b i (b.context i) d x r) i other) ep q)
+      found_gone g b i f d from other r (subst (λ (x : ReceiveAt). Answers b (receive.ask_of d (b.context i).own x) r) ep an)
+      (subst (λ (x : At). AllSay g b i (b.context i) (facts_of x)) (at ∙ ap (InReceive d) ep) (f i))
+      (subst (λ (x : ReceiveAt). ReceivesFrom (receive_board g b i (b.context i) d x r) i other) ep q)
 
   pub turn_ended : PlacesHold g b → (b' : Board) → Turn g b i b' →
       (b.context i).at ≡ InReceive c (receive.Locked (receive_locked.CommitGone from)) → (other : ThreadId) →

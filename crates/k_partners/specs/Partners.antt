@@ -1,4 +1,4 @@
--- Part 9 of a good board, for those who receive. Whoever waits to receive from one thread waits for another; and that one is
+-- Who receives from whom. Whoever waits to receive from one thread waits for another; and that one is
 -- there, or the wait is about to end.
 use Rattle.std.specs.Prelude.{◌≡◌, ◌⊎◌, ℕ, nat_le, Bool, true, false, Some}
 use Rattle.k_ids.specs.declared.threads.ThreadId.{ThreadId}

@@ -10,8 +10,8 @@ use Rattle.k_board.specs.Steps.{Holds}
 use Rattle.k_places.specs.Memory.{Memory}
 use Rattle.k_places.specs.Shows.{IsLockOf}
 
--- The words that it writes or expects have spellings, a lock is one that there is, a context is placed where there is none, and one
--- that is removed holds no lock where its word says so.
+-- The words that it writes or expects have spellings, a lock is one that there is, a context is placed where there is none,
+-- and one that is removed holds no lock where its word says so.
 abbrev pub IsAskFit : Memory → Board → Ask → Type 0
 IsAskFit m b (asks.Load n) = Unit {0}
 IsAskFit m b (asks.LoadMail n) = Unit {0}

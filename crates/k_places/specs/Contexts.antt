@@ -1,4 +1,5 @@
 -- What a context shows on the board: where it stands, and what it has in hand there.
+pub use Rattle.k_plays.specs.Scripts.{programs_of}
 use Rattle.std.specs.Prelude.{◌≡◌, ℕ, ◌+◌, ◌==◌, if◌then◌else◌, Option, Some, None, List, slice_index_or}
 use Rattle.k_ids.specs.declared.state_word.StateWord.{StateWord}
 use Rattle.k_locks.specs.declared.locks.Lock.{Lock}
@@ -7,7 +8,6 @@ use Rattle.k_locks.specs.declared.goods.Goods.{Goods}
 use Rattle.k_locks.specs.Hands.{Hand, goods_for, nothing, trimmed}
 use Rattle.k_locks.specs.Places.{lock_number}
 use Rattle.k_script.specs.Script.{Script}
-use Rattle.k_script.specs.Plays.{next_of, start_of, went_on}
 use Rattle.k_ipc.specs.SendTable as send
 use Rattle.k_ipc.specs.ReceiveTable as receive
 use Rattle.k_threads.specs.CreateTable as create
@@ -20,17 +20,8 @@ use Rattle.k_caller.specs.Threads.{ThreadSeen}
 use Rattle.k_switch.specs.declared.switch.Switch.{Switch}
 use Rattle.k_switch.specs.Switches as switch
 use Rattle.k_context.specs.Contexts.{ContextSeen, Thread, Carrier}
-use Rattle.k_board.specs.Words.{Programs}
 use Rattle.k_board.specs.Boards.{At, Alone, InSend, InReceive, InCreate, InDestroy, InSwitch, Resting, Coming, Nowhere, Context, Board, hand_of}
 use Rattle.k_good.specs.Locks.{locks_at}
-
--- the programs of a script
-abbrev pub programs_of : Script → Programs
-programs_of script = record {
-  start = λ id program. start_of script program id;
-  next = next_of script.version;
-  moved = went_on;
-}
 
 -- WHERE IT STANDS
 

@@ -1,5 +1,5 @@
--- The raw world as maps: each word by its name, each slot by what lies there, the hands of the carriers, and the last serials. Lists
--- and indices are below this, and decoded words and locations above it.
+-- The raw world as maps: each word by its name, each slot by what lies there, the hands of the carriers, and the last
+-- serials. Lists and indices are below this, and decoded words and locations above it.
 use Rattle.std.specs.Prelude.{ℕ, ◌+◌, ◌*◌, ◌==◌, if◌then◌else◌, Option, Some, None, List, slice_index_or}
 use Rattle.k_ids.specs.declared.calls.Outcome.{Outcome}
 use Rattle.k_ids.specs.declared.calls.Outcome.TheVariants as outcome

@@ -1,6 +1,6 @@
--- A world shows a board: its words are those of the board, as bits; each context is where its word tells, and stands where the board
--- has it; and what a lock guards is at home while the lock is free, and else in the hand of the context that holds it. Of a ledger's
--- reply and position no word tells.
+-- A world shows a board: its words are those of the board, as bits; each context is where its word tells, and stands where
+-- the board has it; and what a lock guards is at home while the lock is free, and else in the hand of the context that holds
+-- it. Of a ledger's reply and position no word tells.
 use Rattle.std.specs.Prelude.{◌≡◌, ℕ, ◌<◌, Bool, true, false, Option, Some, None, length}
 use Rattle.k_ids.specs.declared.context_word.ContextWord.{ContextWord}
 use Rattle.k_ids.specs.declared.context_word.ContextWord.TheVariants as context

@@ -19,7 +19,8 @@ pub record IsWalked (script : Script) (p : Position) (r : Option Reply) (q : Pos
   pub behind : moved q l ≡ moved p r
 
 module _ (script : Script) (g : Programs) (are : AreOf script g) where
-  worked : (p : Position) (r : Option Reply) (q : Position) (l : Option Reply) (count : ℕ) → IsWalked script p r q l → g.next q l ≡ next.Work count → IsWalked script p r (g.moved q l) None
+  worked : (p : Position) (r : Option Reply) (q : Position) (l : Option Reply) (count : ℕ) → IsWalked script p r q l →
+      g.next q l ≡ next.Work count → IsWalked script p r (g.moved q l) None
   worked p r q l count h e =
       let is : next_of script.version q l ≡ next.Work count = sym (are.gives q l h.bounds) ∙ e in
       let w = works_on script.version count q l is in
@@ -34,7 +35,8 @@ module _ (script : Script) (g : Programs) (are : AreOf script g) where
         behind = w.moved ∙ h.behind;
       })
 
-  pub walked : (p : Position) (r : Option Reply) (q : Position) (l : Option Reply) → IsInBounds script p r → Walks g p r q l → IsWalked script p r q l
+  pub walked : (p : Position) (r : Option Reply) (q : Position) (l : Option Reply) → IsInBounds script p r → Walks g p r q l →
+      IsWalked script p r q l
   walked p r _ _ b here = record { bounds = b; due = refl; behind = refl }
   walked p r _ _ b (works q l count before e) = worked p r q l count (walked p r q l b before) e
 
@@ -43,7 +45,8 @@ pub record IsNext (script : Script) (p : Position) (r : Option Reply) (f : Phase
   pub phase : f ≡ phase_next script.version p r
   pub leads : after ≡ moved p r
 
-pub begins_next : (script : Script) (g : Programs) (p : Position) (r : Option Reply) (f : Phase) (after : Position) → AreOf script g → IsInBounds script p r → Begins g p r f after → IsNext script p r f after
+pub begins_next : (script : Script) (g : Programs) (p : Position) (r : Option Reply) (f : Phase) (after : Position) →
+    AreOf script g → IsInBounds script p r → Begins g p r f after → IsNext script p r f after
 begins_next script g p r f after are bounds b =
     let h = walked script g are p r b.at b.last bounds b.walk in
     let is : next_of script.version b.at b.last ≡ next.Phase f = sym (are.gives b.at b.last h.bounds) ∙ b.call in
@@ -54,9 +57,12 @@ begins_next script g p r f after are bounds b =
     }
 
 -- It names threads of the table and sends two words, and the program stays within the script.
-pub next_in_bounds : (script : Script) (p : Position) (r : Option Reply) (f : Phase) (after : Position) → IsInBounds script p r → IsNext script p r f after → (NamesInRange script f × SendsWords f) × (IsWithin script after × IsFilled after)
+pub next_in_bounds : (script : Script) (p : Position) (r : Option Reply) (f : Phase) (after : Position) → IsInBounds script p r →
+    IsNext script p r f after → (NamesInRange script f × SendsWords f) × (IsWithin script after × IsFilled after)
 next_in_bounds script p r f after b h =
     let n = next_within script script.version p r b.within b.told in
     let sends = next_words script p r b.within b.filled b.words in
-    let filled = moved_filled p r b.filled b.words in
-    ((subst (NamesInRange script) (sym h.phase) n.0, subst SendsWords (sym h.phase) sends), (subst (IsWithin script) (sym h.leads) n.1, subst IsFilled (sym h.leads) filled))
+    let filled = moved_filled p r b.filled b.words in (
+      (subst (NamesInRange script) (sym h.phase) n.0, subst SendsWords (sym h.phase) sends),
+      (subst (IsWithin script) (sym h.leads) n.1, subst IsFilled (sym h.leads) filled),
+    )

@@ -1,7 +1,8 @@
 -- What a linearization point makes of the ledgers' positions is what its entry makes of the programs'.
 use Rattle.std.proofs.Common.{◌≡◌, ℕ, Bool, true, false, refl, sym, ap, ◌∙◌, subst, Option, Some, None, inl, inr}
 use Rattle.std.proofs.lemmas.Bool.{cases_eq, cond_both, false≢true}
-use Rattle.k_board.specs.Words.{Programs, Seen, answered, call_noted, called, calls, opened, opens, passes_to, pick_noted, sent_reply, tells, tells_sent}
+use Rattle.k_board.specs.Words.{Programs, Seen, answered, call_noted, called, calls, opened}
+use Rattle.k_board.specs.Words.{opens, passes_to, pick_noted, sent_reply, tells, tells_sent}
 use Rattle.k_ids.specs.declared.threads.ThreadId.{ThreadId}
 use Rattle.k_ids.specs.declared.calls.Act.TheVariants as act
 use Rattle.k_ids.specs.declared.calls.Outcome.{Outcome}
@@ -23,10 +24,14 @@ use Rattle.k_script.specs.Script.{Script}
 -- A REPLY moves no program.
 
 tells_stands : (s : ℕ → Seen) (id : ThreadId) (r : Reply) (t : ℕ) → places_of (tells s id r) t ≡ places_of s t
-tells_stands s id r t = upd_cases (λ (v : Seen). v.position ≡ (s t).position) s id.number (answered (s id.number) r) t (λ e. ap (places_of s) (sym e)) (λ _. refl)
+tells_stands s id r t =
+    upd_cases (λ (v : Seen). v.position ≡ (s t).position) s id.number (answered (s id.number) r) t (λ e. ap (places_of s) (sym e))
+    (λ _. refl)
 
 sent_stands : (s : ℕ → Seen) (id : ThreadId) (t : ℕ) → places_of (tells_sent s id) t ≡ places_of s t
-sent_stands s id t = cond_both (is_joined_to (s id.number).word.state) s (tells s id reply.Sent) (λ (v : ℕ → Seen). places_of v t ≡ places_of s t) (λ _. refl) (λ _. tells_stands s id reply.Sent t)
+sent_stands s id t =
+    cond_both (is_joined_to (s id.number).word.state) s (tells s id reply.Sent) (λ (v : ℕ → Seen). places_of v t ≡ places_of s t)
+    (λ _. refl) (λ _. tells_stands s id reply.Sent t)
 
 passes_stands : (s : ℕ → Seen) (me : ThreadId) (f : Phase) (t : ℕ) → places_of (passes_to s me f) t ≡ places_of s t
 passes_stands s me (phase.Send to message zero joined) t = tells_stands s to (reply.Got me message) t
@@ -38,22 +43,30 @@ passes_stands s me phase.End t = refl
 
 -- A CALL moves its caller's, and a thread that is made begins its own.
 
-calls_moves : (s : ℕ → Seen) (me : ThreadId) (at : Position) (r : Option Reply) (t : ℕ) → places_of (calls s me at r) t ≡ upd (places_of s) me.number at t
+calls_moves : (s : ℕ → Seen) (me : ThreadId) (at : Position) (r : Option Reply) (t : ℕ) →
+    places_of (calls s me at r) t ≡ upd (places_of s) me.number at t
 calls_moves s me at r t = elim (cases_eq t me.number) [
   | inl e ↦ subst (λ (j : ℕ). places_of (calls s me at r) j ≡ upd (places_of s) me.number at j) (sym e)
-      (ap (λ (v : Seen). v.position) (upd_same s me.number (called (s me.number) r at)) ∙ sym (upd_same (places_of s) me.number at))
-  | inr ne ↦ ap (λ (v : Seen). v.position) (upd_other s me.number (called (s me.number) r at) t ne) ∙ sym (upd_other (places_of s) me.number at t ne)
+      (ap (λ (v : Seen). v.position) (upd_same s me.number (called (s me.number) r at))
+      ∙ sym (upd_same (places_of s) me.number at))
+  | inr ne ↦
+      ap (λ (v : Seen). v.position) (upd_other s me.number (called (s me.number) r at) t ne)
+      ∙ sym (upd_other (places_of s) me.number at t ne)
 ]
 
-opens_moves : (s : ℕ → Seen) (at : ℕ → Position) (id : ThreadId) (q : Position) (t : ℕ) → ((t : ℕ) → places_of s t ≡ at t) → places_of (upd s id.number (opened (s id.number) q)) t ≡ upd at id.number q t
+opens_moves : (s : ℕ → Seen) (at : ℕ → Position) (id : ThreadId) (q : Position) (t : ℕ) → ((t : ℕ) → places_of s t ≡ at t) →
+    places_of (upd s id.number (opened (s id.number) q)) t ≡ upd at id.number q t
 opens_moves s at id q t same = elim (cases_eq t id.number) [
   | inl e ↦ subst (λ (j : ℕ). places_of (upd s id.number (opened (s id.number) q)) j ≡ upd at id.number q j) (sym e)
       (ap (λ (v : Seen). v.position) (upd_same s id.number (opened (s id.number) q)) ∙ sym (upd_same at id.number q))
-  | inr ne ↦ ap (λ (v : Seen). v.position) (upd_other s id.number (opened (s id.number) q) t ne) ∙ same t ∙ sym (upd_other at id.number q t ne)
+  | inr ne ↦
+      ap (λ (v : Seen). v.position) (upd_other s id.number (opened (s id.number) q) t ne) ∙ same t
+      ∙ sym (upd_other at id.number q t ne)
 ]
 
 module _ (script : Script) (g : Programs) (are : AreOf script g) where
-  begins_moves : (s : ℕ → Seen) (at : ℕ → Position) (id : ThreadId) (f : Phase) (t : ℕ) → ((t : ℕ) → places_of s t ≡ at t) → places_of (opens g s id f) t ≡ begun script at (created_program (act.Call f)) (outcome.Made id) t
+  begins_moves : (s : ℕ → Seen) (at : ℕ → Position) (id : ThreadId) (f : Phase) (t : ℕ) → ((t : ℕ) → places_of s t ≡ at t) →
+      places_of (opens g s id f) t ≡ begun script at (created_program (act.Call f)) (outcome.Made id) t
   begins_moves s at id (phase.Create program priority) t same =
       opens_moves s at id (g.start id program) t same ∙ ap (λ (q : Position). upd at id.number q t) (are.starts id program)
   begins_moves s at id (phase.Send to message zero joined) t same = same t
@@ -84,29 +97,43 @@ module _ (script : Script) (g : Programs) (are : AreOf script g) where
 
   module _ (s : ℕ → Seen) (me : ThreadId) (at : Position) (f : Phase) (t : ℕ) where
     abbrev Moves : Outcome → Type 0
-    Moves o = places_of (call_noted g s me at f o) t ≡ begun script (upd (places_of s) me.number at) (created_program (act.Call f)) o t
+    Moves o =
+        places_of (call_noted g s me at f o) t ≡ begun script (upd (places_of s) me.number at) (created_program (act.Call f)) o t
 
-    plain : (v : ℕ → Seen) (r : Option Reply) (o : Outcome) → is_made o ≡ false → places_of v t ≡ places_of (calls s me at r) t → places_of v t ≡ begun script (upd (places_of s) me.number at) (created_program (act.Call f)) o t
-    plain v r o h e = e ∙ calls_moves s me at r t ∙ sym (ap (λ (m : ℕ → Position). m t) (unmade_stands (upd (places_of s) me.number at) (created_program (act.Call f)) o h))
+    plain : (v : ℕ → Seen) (r : Option Reply) (o : Outcome) → is_made o ≡ false → places_of v t ≡ places_of (calls s me at r) t →
+        places_of v t ≡ begun script (upd (places_of s) me.number at) (created_program (act.Call f)) o t
+    plain v r o h e =
+        e ∙ calls_moves s me at r t ∙ sym (ap (λ (m : ℕ → Position). m t)
+        (unmade_stands (upd (places_of s) me.number at) (created_program (act.Call f)) o h))
 
     pub call_moves : (o : Outcome) → is_freed o ≡ false → Moves o
-    call_moves outcome.Passed h = plain (passes_to (calls s me at (sent_reply f)) me f) (sent_reply f) outcome.Passed refl (passes_stands (calls s me at (sent_reply f)) me f t)
+    call_moves outcome.Passed h =
+        plain (passes_to (calls s me at (sent_reply f)) me f) (sent_reply f) outcome.Passed refl
+        (passes_stands (calls s me at (sent_reply f)) me f t)
     call_moves outcome.Waits h = plain (calls s me at None) None outcome.Waits refl refl
-    call_moves (outcome.Took from message) h = plain (tells_sent (calls s me at (Some (reply.Got from message))) from) (Some (reply.Got from message)) (outcome.Took from message) refl (sent_stands (calls s me at (Some (reply.Got from message))) from t)
-    call_moves (outcome.Absent found) h = plain (calls s me at (Some (reply.Absent found))) (Some (reply.Absent found)) (outcome.Absent found) refl refl
-    call_moves (outcome.Busy found) h = plain (calls s me at (Some (reply.Busy found))) (Some (reply.Busy found)) (outcome.Busy found) refl refl
+    call_moves (outcome.Took from message) h =
+        plain (tells_sent (calls s me at (Some (reply.Got from message))) from) (Some (reply.Got from message))
+        (outcome.Took from message) refl (sent_stands (calls s me at (Some (reply.Got from message))) from t)
+    call_moves (outcome.Absent found) h =
+        plain (calls s me at (Some (reply.Absent found))) (Some (reply.Absent found)) (outcome.Absent found) refl refl
+    call_moves (outcome.Busy found) h =
+        plain (calls s me at (Some (reply.Busy found))) (Some (reply.Busy found)) (outcome.Busy found) refl refl
     call_moves outcome.Nobody h = plain (calls s me at (Some reply.Nobody)) (Some reply.Nobody) outcome.Nobody refl refl
     call_moves outcome.Own h = plain (calls s me at (Some reply.Own)) (Some reply.Own) outcome.Own refl refl
     call_moves outcome.Killed h = plain (calls s me at (Some reply.Killed)) (Some reply.Killed) outcome.Killed refl refl
-    call_moves (outcome.Made id) h = begins_moves (calls s me at (Some (reply.Made id))) (upd (places_of s) me.number at) id f t (calls_moves s me at (Some (reply.Made id)))
-    call_moves (outcome.Full alive worn) h = plain (calls s me at (Some (reply.Full alive worn))) (Some (reply.Full alive worn)) (outcome.Full alive worn) refl refl
+    call_moves (outcome.Made id) h =
+        begins_moves (calls s me at (Some (reply.Made id))) (upd (places_of s) me.number at) id f t
+        (calls_moves s me at (Some (reply.Made id)))
+    call_moves (outcome.Full alive worn) h =
+        plain (calls s me at (Some (reply.Full alive worn))) (Some (reply.Full alive worn)) (outcome.Full alive worn) refl refl
     call_moves outcome.Ended h = plain (calls s me at None) None outcome.Ended refl refl
     call_moves outcome.Freed h = absurd (false≢true (sym h))
 
 -- OTHER EVENTS move none.
 
 pub pick_stands : (s : ℕ → Seen) (me : ThreadId) (o : Outcome) (t : ℕ) → places_of (pick_noted s me o) t ≡ places_of s t
-pick_stands s me (outcome.Took from message) t = sent_stands (tells s me (reply.Got from message)) from t ∙ tells_stands s me (reply.Got from message) t
+pick_stands s me (outcome.Took from message) t =
+    sent_stands (tells s me (reply.Got from message)) from t ∙ tells_stands s me (reply.Got from message) t
 pick_stands s me outcome.Passed t = refl
 pick_stands s me outcome.Waits t = refl
 pick_stands s me (outcome.Absent found) t = refl

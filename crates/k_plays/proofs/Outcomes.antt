@@ -12,7 +12,8 @@ use Rattle.k_ids.specs.declared.calls.Phase.{Phase}
 use Rattle.k_ids.specs.declared.calls.Phase.TheVariants as phase
 use Rattle.k_model.specs.Maps.{lowest}
 use Rattle.k_model.specs.State.{KernelState, is_present, same_id, takes_from}
-use Rattle.k_model.specs.Step.{acted, called, create, created, destroy, is_free, is_own, made, match_at, receive, received, send, status_after}
+use Rattle.k_model.specs.Step.{acted, called, create, created, destroy, is_free, is_own}
+use Rattle.k_model.specs.Step.{made, match_at, receive, received, send, status_after}
 
 abbrev pub is_freed : Outcome → Bool
 is_freed outcome.Freed = true
@@ -21,7 +22,8 @@ is_freed o = false
 abbrev Unfreed : KernelState × Outcome → Type 0
 Unfreed r = is_freed r.1 ≡ false
 
-send_unfreed : (k : KernelState) (me : ThreadId) (serial : ℕ) (to : ThreadId) (message : Message) (zero joined : Bool) (after : Status) → Unfreed (send k me serial to message zero joined after)
+send_unfreed : (k : KernelState) (me : ThreadId) (serial : ℕ) (to : ThreadId) (message : Message) (zero joined : Bool)
+    (after : Status) → Unfreed (send k me serial to message zero joined after)
 unfolding send
 send_unfreed k me serial to message zero joined after =
     cond_both (same_id me to) _ _ Unfreed (λ _. refl)
@@ -29,14 +31,17 @@ send_unfreed k me serial to message zero joined after =
     (λ _. cond_both (takes_from (k.place to.number).status me zero) _ _ Unfreed (λ _. refl)
     (λ _. cond_both zero _ _ Unfreed (λ _. refl) (λ _. refl))))
 
-received_unfreed : (k : KernelState) (me : ThreadId) (serial : ℕ) (from : Option ThreadId) (zero : Bool) (at : Option ℕ) → Unfreed (received k me serial from zero at)
+received_unfreed : (k : KernelState) (me : ThreadId) (serial : ℕ) (from : Option ThreadId) (zero : Bool) (at : Option ℕ) →
+    Unfreed (received k me serial from zero at)
 unfolding received
 received_unfreed k me serial from zero (Some at) = refl
 received_unfreed k me serial from zero None = cond_both zero _ _ Unfreed (λ _. refl) (λ _. refl)
 
-receive_unfreed : (k : KernelState) (me : ThreadId) (serial : ℕ) (from : Option ThreadId) (zero : Bool) → Unfreed (receive k me serial from zero)
+receive_unfreed : (k : KernelState) (me : ThreadId) (serial : ℕ) (from : Option ThreadId) (zero : Bool) →
+    Unfreed (receive k me serial from zero)
 unfolding receive
-receive_unfreed k me serial from zero = cond_both (is_own from me) _ _ Unfreed (λ _. refl) (λ _. received_unfreed k me serial from zero (match_at k me from))
+receive_unfreed k me serial from zero =
+    cond_both (is_own from me) _ _ Unfreed (λ _. refl) (λ _. received_unfreed k me serial from zero (match_at k me from))
 
 created_unfreed : (k : KernelState) (me : ThreadId) (serial : ℕ) (at : Option ℕ) → Unfreed (created k me serial at)
 unfolding created
@@ -51,13 +56,16 @@ destroy_unfreed k me serial victim =
 
 made_unfreed : (k : KernelState) (me : ThreadId) (serial : ℕ) (f : Phase) → Unfreed (made k me serial f)
 unfolding made create
-made_unfreed k me serial (phase.Send to message zero joined) = send_unfreed k me serial to message zero joined (status_after joined to)
+made_unfreed k me serial (phase.Send to message zero joined) =
+    send_unfreed k me serial to message zero joined (status_after joined to)
 made_unfreed k me serial (phase.Reply to message zero) = send_unfreed k me serial to message zero false status.Picking
 made_unfreed k me serial (phase.Receive from zero) = receive_unfreed k me serial from zero
 made_unfreed k me serial (phase.Create program priority) = created_unfreed k me serial (lowest (λ n. is_free (k.place n)) k.size)
 made_unfreed k me serial (phase.Destroy victim) = destroy_unfreed k me serial victim
 made_unfreed k me serial phase.End = refl
 
-pub call_unfreed : (k n : KernelState) (who : ThreadId) (serial : ℕ) (f : Phase) (o : Outcome) → acted k who serial (act.Call f) ≡ (n, o) → is_freed o ≡ false
+pub call_unfreed : (k n : KernelState) (who : ThreadId) (serial : ℕ) (f : Phase) (o : Outcome) →
+    acted k who serial (act.Call f) ≡ (n, o) → is_freed o ≡ false
 unfolding acted
-call_unfreed k n who serial f o gives = sym (ap (λ (r : KernelState × Outcome). is_freed r.1) gives) ∙ made_unfreed (called k who serial) who serial f
+call_unfreed k n who serial f o gives =
+    sym (ap (λ (r : KernelState × Outcome). is_freed r.1) gives) ∙ made_unfreed (called k who serial) who serial f

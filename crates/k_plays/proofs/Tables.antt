@@ -29,7 +29,11 @@ in_range table id h =
     let number : nat_lt id.number table ≡ true = p.0 in
     let first : nat_le 1 id.version ≡ true = q.0 in
     let last : nat_le id.version 1048575 ≡ true = q.1 in
-    record { number = grind (arith, nat_tests, number); first = grind (arith, nat_tests, first); last = grind (arith, nat_tests, last) }
+    record {
+      number = grind (arith, nat_tests, number);
+      first = grind (arith, nat_tests, first);
+      last = grind (arith, nat_tests, last);
+    }
 
 in_table : (table : ℕ) (id : ThreadId) → IsInRange table id → is_in_table table id ≡ true
 in_table table id h =
@@ -119,11 +123,13 @@ ranged_words script p r f h = (within_fits script.table (next_of script.version 
 
 -- Within the script they are the script's.
 
-within_same : (script : Script) (p : Position) (r : Option Reply) (n : Next) → next_of script.version p r ≡ n → IsInBounds script p r → within_table script.table n ≡ n
+within_same : (script : Script) (p : Position) (r : Option Reply) (n : Next) → next_of script.version p r ≡ n →
+    IsInBounds script p r → within_table script.table n ≡ n
 within_same script p r (next.Work count) e b = refl
 within_same script p r (next.Phase f) e b =
     let is : phase_next script.version p r ≡ f = sym (calls_on script.version p r f e).phase in
-    let names : NamesInRange script f = subst (NamesInRange script) is (next_within script script.version p r b.within b.told).0 in
+    let names : NamesInRange script f = subst (NamesInRange script) is
+    (next_within script script.version p r b.within b.told).0 in
     let sends : SendsWords f = subst SendsWords is (next_words script p r b.within b.filled b.words) in
     let both : (names_table script.table f && sends_words f) ≡ true = and_from _ _ (names_of script f names) (sends_of f sends) in
     rw both refl

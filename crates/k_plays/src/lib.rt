@@ -1,7 +1,7 @@
 //! The history of a kernel's run plays its script: each linearization point keeps it so.
 //!
 //! It has no code. `specs/Scripts` has the programs of a script as boards have them, and others of which every call names
-//! threads of the table and sends two words of 32 bits; nothing that a run reaches tells the two apart. `specs/Messages` says
+//! threads of the table and sends two words of 32 bits; within the script's bounds both give the same. `specs/Messages` says
 //! which messages are two such words. `specs/Ledgers` says what a point stands on: its call is the one that the program gives
 //! after the ledger's position and reply.
 //!

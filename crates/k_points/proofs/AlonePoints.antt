@@ -36,7 +36,8 @@ use Rattle.k_points.proofs.Status.{closed_status}
 module _ (g : Programs) (b : Board) (k : KernelState) (sh : Shows b k) where
   -- one context moves, and nothing else is seen to change
   pub placed_points : (i : ℕ) (x : Context) → excepts x.at ≡ excepts (b.context i).at → Tells k (shown (placed b i x))
-  placed_points i x e = quiet k b (placed b i x) sh.lines (λ n. excepted_still b.context _ (moved_same b.context i x e) (b.owner n) n) (λ n. refl)
+  placed_points i x e =
+      quiet k b (placed b i x) sh.lines (λ n. excepted_still b.context _ (moved_same b.context i x e) (b.owner n) n) (λ n. refl)
 
   module _ (good : IsGood g b) (an : IsAnswered k) (i : ℕ) where
     abbrev x : Context
@@ -46,7 +47,8 @@ module _ (g : Programs) (b : Board) (k : KernelState) (sh : Shows b k) where
     New p r = alone_board g b i (b.context i) p r
 
     same_exceptions : (p : ThreadLocation) (r : Response) → (b.context i).at ≡ Alone p → SameExceptions b (New p r)
-    same_exceptions p r at n = excepted_still b.context _ (moved_same b.context i (alone_context x p r) (sym (ap excepts at))) (b.owner n) n
+    same_exceptions p r at n =
+        excepted_still b.context _ (moved_same b.context i (alone_context x p r) (sym (ap excepts at))) (b.owner n) n
 
     quiet_by : (p : ThreadLocation) (r : Response) → (b.context i).at ≡ Alone p → ((n : ℕ) → (New p r).seen n ≡ b.seen n) →
         Tells k (shown (New p r))
@@ -57,15 +59,20 @@ module _ (g : Programs) (b : Board) (k : KernelState) (sh : Shows b k) where
         Goes g b k (points (id_at b i) location.CommitEnd asks.Won) (New location.CommitEnd asks.Won)
     ended at won h =
         let me = id_at b i in
-        waits b k sh.lines an me x.own won h.1.1.0.0 refl g phase.End x.position h.1.0.1 (New location.CommitEnd asks.Won) (same_exceptions location.CommitEnd asks.Won at) outcome.Ended (with_status (now b k me) i status.Ended) (ended_word x.own) status.Ended false
-        (end_is k me (serial_of b me)) (ap (λ (u : StateWord). u.version) (sym won)) (closed_status (excepted_by (b.owner i) b.context i) state.Ended refl) refl
-        (tells_status (now b k me) (now_line b me) i status.Ended (now_tells b k sh.lines an me x.own won h.1.1.0.0 refl phase.End)) (λ j. refl)
+        waits b k sh.lines an me x.own won h.1.1.0.0 refl g phase.End x.position h.1.0.1 (New location.CommitEnd asks.Won)
+        (same_exceptions location.CommitEnd asks.Won at) outcome.Ended (with_status (now b k me) i status.Ended)
+        (ended_word x.own) status.Ended false
+        (end_is k me (serial_of b me)) (ap (λ (u : StateWord). u.version) (sym won))
+        (closed_status (excepted_by (b.owner i) b.context i) state.Ended refl) refl
+        (tells_status (now b k me) (now_line b me) i status.Ended
+        (now_tells b k sh.lines an me x.own won h.1.1.0.0 refl phase.End)) (λ j. refl)
 
     asleep : (b.context i).at ≡ Alone location.FallAsleep → (b.seen i).word ≡ x.own →
         Tells k (shown (New location.FallAsleep asks.Won))
     asleep at won n =
         sh.lines n
-        ∙ sym (same_still b i (alone_context x location.FallAsleep asks.Won) i (with_word (b.seen i) (off_word x.own)) (sym (ap excepts at)) (λ d. ap (λ (u : StateWord). shown_by d (with_word (b.seen i) (off_word u))) (sym won)) n)
+        ∙ sym (same_still b i (alone_context x location.FallAsleep asks.Won) i (with_word (b.seen i) (off_word x.own))
+        (sym (ap excepts at)) (λ d. ap (λ (u : StateWord). shown_by d (with_word (b.seen i) (off_word u))) (sym won)) n)
 
     goes : (p : ThreadLocation) (r : Response) → can_ask p ≡ true → (b.context i).at ≡ Alone p →
         Answers b (ask_of (id_at b i) x.own p) r → AllSay g b i x (facts_alone p) → Goes g b k (points (id_at b i) p r) (New p r)
@@ -88,13 +95,17 @@ pub alone_points : (g : Programs) (b : Board) (k : KernelState) → IsGood g b �
     (i : ℕ) (p : ThreadLocation) (r : Response) → (b.context i).at ≡ Alone p → can_ask p ≡ true →
     Answers b (ask_of (id_at b i) (b.context i).own p) r →
     Goes g b k (points (id_at b i) p r) (alone_board g b i (b.context i) p r)
-alone_points g b k good sh an i p r at can ans = goes g b k sh good an i p r can at ans (subst (λ (q : At). AllSay g b i (b.context i) (facts_of q)) at (good.places i))
+alone_points g b k good sh an i p r at can ans =
+    goes g b k sh good an i p r can at ans (subst (λ (q : At). AllSay g b i (b.context i) (facts_of q)) at (good.places i))
 
 -- A switch shows the same: it takes and releases the ready lock alone.
 pub switch_points : (g : Programs) (b : Board) (k : KernelState) → Shows b k →
     (i : ℕ) (c : SwitchCall) (p : SwitchAt) (r : Response) → (b.context i).at ≡ InSwitch c p →
     Tells k (shown (switch_board b i (b.context i) c p r))
-switch_points g b k sh i c p r at = quiet k b (switch_board b i (b.context i) c p r) sh.lines (owned_still b.context _ (moved_same b.context i (switch_context (b.context i) c p r (hand_of b [])) (sym (ap excepts at))) i (ap excepts at) b.owner (switch.ask_of c p) r (owns p r)) (λ n. refl)
+switch_points g b k sh i c p r at =
+    quiet k b (switch_board b i (b.context i) c p r) sh.lines
+    (owned_still b.context _ (moved_same b.context i (switch_context (b.context i) c p r (hand_of b [])) (sym (ap excepts at))) i
+    (ap excepts at) b.owner (switch.ask_of c p) r (owns p r)) (λ n. refl)
   where
     owns : (p : SwitchAt) (r : Response) → Owns b.owner i (switch.ask_of c p) r
     owns switch.AcquireReady r = tt

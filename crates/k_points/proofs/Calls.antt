@@ -67,13 +67,16 @@ module _ (b : Board) (k : KernelState) (sh : Tells k (shown b)) (an : IsAnswered
   pub version_now : (p : Phase) (t : ℕ) → ((now b k me).place t).version ≡ (b.seen t).word.version
   version_now p t =
       ap (λ (l : Line). l.version) (now_tells p t)
-      ∙ upd_cases (λ (l : Line). l.version ≡ (b.seen t).word.version) (shown b) me.number _ t (λ e. ap (λ (i : ℕ). (b.seen i).word.version) (sym e)) (λ _. refl)
+      ∙ upd_cases (λ (l : Line). l.version ≡ (b.seen t).word.version) (shown b) me.number _ t
+      (λ e. ap (λ (i : ℕ). (b.seen i).word.version) (sym e)) (λ _. refl)
 
   pub status_is : (p : Phase) (t : ℕ) →
       ((now b k me).place t).status ≡ status_by (excepted_by (b.owner t) b.context t) (b.seen t).word.state
   status_is p t =
       ap (λ (l : Line). l.status) (now_tells p t)
-      ∙ upd_cases (λ (l : Line). l.status ≡ status_by (excepted_by (b.owner t) b.context t) (b.seen t).word.state) (shown b) me.number _ t (λ q. ap (λ (i : ℕ). status_by (excepted_by (b.owner i) b.context i) (b.seen i).word.state) (sym q)) (λ _. refl)
+      ∙ upd_cases (λ (l : Line). l.status ≡ status_by (excepted_by (b.owner t) b.context t) (b.seen t).word.state)
+      (shown b) me.number _ t (λ q. ap (λ (i : ℕ). status_by (excepted_by (b.owner i) b.context i) (b.seen i).word.state) (sym q))
+      (λ _. refl)
 
   pub status_now : (p : Phase) (t : ℕ) → excepted_by (b.owner t) b.context t ≡ false →
       ((now b k me).place t).status ≡ shows (b.seen t).word.state
@@ -86,7 +89,8 @@ module _ (b : Board) (k : KernelState) (sh : Tells k (shown b)) (an : IsAnswered
   pub present_now : (p : Phase) (id : ThreadId) → is_present (now b k me) id ≡ is_present_in (b.seen id.number).word id
   present_now p id =
       (λ d. eqb (version_now p id.number d) id.version && not (is_dead_status (status_is p id.number d)))
-      ∙ ap (λ (q : Bool). eqb (b.seen id.number).word.version id.version && not q) (dead_by (excepted_by (b.owner id.number) b.context id.number) (b.seen id.number).word.state)
+      ∙ ap (λ (q : Bool). eqb (b.seen id.number).word.version id.version && not q)
+      (dead_by (excepted_by (b.owner id.number) b.context id.number) (b.seen id.number).word.state)
 
   -- THE CALL IS DECIDED: by any row of the specification, and a board that shows what the row leaves
   module _ (g : Programs) (p : Phase) (at : Position)
@@ -108,12 +112,20 @@ module _ (b : Board) (k : KernelState) (sh : Tells k (shown b)) (an : IsAnswered
           ((j : ℕ) → b'.seen j ≡ upd b.seen me.number (called (b.seen me.number) (Some r) at) j) →
           Decided g b k (record { who = me; act = act.Call p; outcome = o }) b'
       answers o r row seen =
-          decides o (answered_in (now b k me) me (serial_of b me) r) row (ap (λ u. u.position) (seen me.number ∙ upd_same b.seen me.number _))
-          (λ j. tells_answered (now b k me) (now_line b me) me (serial_of b me) r (ap (λ (l : Line). l.version) now_me ∙ sym v) (ap (λ (l : Line). l.serial) now_me) (ap (λ (l : Line). l.told) now_me) (now_tells p) j ∙ line_is j ∙ (λ d. shown_by (sym (ex j) d) (sym (seen j) d)))
+          decides o (answered_in (now b k me) me (serial_of b me) r) row
+          (ap (λ u. u.position) (seen me.number ∙ upd_same b.seen me.number _))
+          (λ j. tells_answered (now b k me) (now_line b me) me (serial_of b me) r (ap (λ (l : Line). l.version) now_me ∙ sym v)
+          (ap (λ (l : Line). l.serial) now_me) (ap (λ (l : Line). l.told) now_me) (now_tells p) j ∙ line_is j
+          ∙ (λ d. shown_by (sym (ex j) d) (sym (seen j) d)))
         where
           line_is : (j : ℕ) →
-              line_answered (now_line b me) me.number r j ≡ shown_by (excepted_by (b.owner j) b.context j) (upd b.seen me.number (called (b.seen me.number) (Some r) at) j)
-          line_is = by_number (λ j. line_answered (now_line b me) me.number r j ≡ shown_by (excepted_by (b.owner j) b.context j) (upd b.seen me.number (called (b.seen me.number) (Some r) at) j)) me.number (grind (arith, upd_tells)) (λ j ne. grind (arith, upd_tells))
+              line_answered (now_line b me) me.number r j ≡ shown_by (excepted_by (b.owner j) b.context j)
+              (upd b.seen me.number (called (b.seen me.number) (Some r) at) j)
+          line_is =
+              by_number (λ j. line_answered (now_line b me) me.number r j ≡
+              shown_by (excepted_by (b.owner j) b.context j) (upd b.seen me.number
+              (called (b.seen me.number) (Some r) at) j)) me.number (grind (arith, upd_tells))
+              (λ j ne. grind (arith, upd_tells))
 
       -- it waits, or ends the program: its caller's word becomes this one, and it has no reply
       pub waits : (o : Outcome) (new : KernelState) (w : StateWord) (s : Status) (joined : Bool) →
@@ -123,11 +135,19 @@ module _ (b : Board) (k : KernelState) (sh : Tells k (shown b)) (an : IsAnswered
           ((j : ℕ) → b'.seen j ≡ write (upd b.seen me.number (called (b.seen me.number) None at)) me.number w j) →
           Decided g b k (record { who = me; act = act.Call p; outcome = o }) b'
       waits o new w s joined row wv ws wj t seen =
-          decides o new row (ap (λ u. u.position) (seen me.number ∙ upd_same (upd b.seen me.number (called (b.seen me.number) None at)) me.number _ ∙ ap (λ u. with_word u w) (upd_same b.seen me.number (called (b.seen me.number) None at))))
+          decides o new row (ap (λ u. u.position) (seen me.number
+          ∙ upd_same (upd b.seen me.number (called (b.seen me.number) None at)) me.number _
+          ∙ ap (λ u. with_word u w) (upd_same b.seen me.number (called (b.seen me.number) None at))))
           (λ j. t j ∙ line_is wv ws wj j ∙ (λ d. shown_by (sym (ex j) d) (sym (seen j) d)))
         where
           line_is : w.version ≡ (b.seen me.number).word.version →
               status_by (excepted_by (b.owner me.number) b.context me.number) w.state ≡ s → is_joined_to w.state ≡ joined →
               (j : ℕ) →
-              upd (now_line b me) me.number (record (now_line b me me.number) { status = s; joined = joined }) j ≡ shown_by (excepted_by (b.owner j) b.context j) (write (upd b.seen me.number (called (b.seen me.number) None at)) me.number w j)
-          line_is wv ws wj = by_number (λ j. upd (now_line b me) me.number (record (now_line b me me.number) { status = s; joined = joined }) j ≡ shown_by (excepted_by (b.owner j) b.context j) (write (upd b.seen me.number (called (b.seen me.number) None at)) me.number w j)) me.number (grind (arith, upd_tells)) (λ j ne. grind (arith, upd_tells))
+              upd (now_line b me) me.number (record (now_line b me me.number) { status = s; joined = joined }) j ≡
+              shown_by (excepted_by (b.owner j) b.context j) (write
+              (upd b.seen me.number (called (b.seen me.number) None at)) me.number w j)
+          line_is wv ws wj =
+              by_number (λ j. upd (now_line b me) me.number (record (now_line b me me.number) { status = s; joined = joined }) j ≡
+              shown_by (excepted_by (b.owner j) b.context j) (write
+              (upd b.seen me.number (called (b.seen me.number) None at)) me.number w j)) me.number (grind (arith, upd_tells))
+              (λ j ne. grind (arith, upd_tells))

@@ -59,7 +59,9 @@ abbrev pub SameExcepts : (ℕ → Context) → (ℕ → Context) → Type 0
 SameExcepts c d = (j : ℕ) → excepts (d j).at ≡ excepts (c j).at
 
 pub moved_same : (c : ℕ → Context) (i : ℕ) (x : Context) → excepts x.at ≡ excepts (c i).at → SameExcepts c (upd c i x)
-moved_same c i x e j = upd_cases (λ (y : Context). excepts y.at ≡ excepts (c j).at) c i x j (λ q. e ∙ ap (λ (m : ℕ). excepts (c m).at) (sym q)) (λ _. refl)
+moved_same c i x e j =
+    upd_cases (λ (y : Context). excepts y.at ≡ excepts (c j).at) c i x j (λ q. e ∙ ap (λ (m : ℕ). excepts (c m).at) (sym q))
+    (λ _. refl)
 
 -- two contexts move
 pub both_same : (c : ℕ → Context) (m i : ℕ) (y x : Context) → excepts y.at ≡ excepts (c m).at → excepts x.at ≡ excepts (c i).at →
@@ -92,8 +94,14 @@ Owns o i a r = Unit {0}
 pub owned_still : (c d : ℕ → Context) → SameExcepts c d → (i : ℕ) → excepts (c i).at ≡ None →
     (o : ℕ → Option ℕ) (a : Ask) (r : Response) → Owns o i a r → (n : ℕ) →
     excepted_by (owned o i a r n) d n ≡ excepted_by (o n) c n
-owned_still c d same i none o (asks.Acquire (lock.Thread m)) asks.Got free n = upd_cases (λ (x : Option ℕ). excepted_by x d n ≡ excepted_by (o n) c n) o m (Some i) n (λ q. ap (λ (x : Option ℕ). is_number x n) (same i ∙ none) ∙ sym (ap (λ (x : Option ℕ). excepted_by x c n) (ap o q ∙ free))) (λ _. excepted_still c d same (o n) n)
-owned_still c d same i none o (asks.Release (lock.Thread m)) asks.Released mine n = upd_cases (λ (x : Option ℕ). excepted_by x d n ≡ excepted_by (o n) c n) o m None n (λ q. sym (ap (λ (x : Option ℕ). excepted_by x c n) (ap o q ∙ mine) ∙ ap (λ (x : Option ℕ). is_number x n) none)) (λ _. excepted_still c d same (o n) n)
+owned_still c d same i none o (asks.Acquire (lock.Thread m)) asks.Got free n =
+    upd_cases (λ (x : Option ℕ). excepted_by x d n ≡ excepted_by (o n) c n) o m (Some i) n
+    (λ q. ap (λ (x : Option ℕ). is_number x n) (same i ∙ none) ∙ sym (ap (λ (x : Option ℕ). excepted_by x c n) (ap o q ∙ free)))
+    (λ _. excepted_still c d same (o n) n)
+owned_still c d same i none o (asks.Release (lock.Thread m)) asks.Released mine n =
+    upd_cases (λ (x : Option ℕ). excepted_by x d n ≡ excepted_by (o n) c n) o m None n
+    (λ q. sym (ap (λ (x : Option ℕ). excepted_by x c n) (ap o q ∙ mine) ∙ ap (λ (x : Option ℕ). is_number x n) none))
+    (λ _. excepted_still c d same (o n) n)
 owned_still c d same i none o a r h n = excepted_still c d same (o n) n
 
 -- The context of a number that owns no lock is removed.
@@ -103,7 +111,10 @@ pub removed_still : (c : ℕ → Context) (m i : ℕ) (y x : Context) → except
 removed_still c m i y x ey ex none o free n = by (o n) refl
   where
     at : (j : ℕ) → j ≢ m → excepts (upd (upd c m y) i x j).at ≡ excepts (c j).at
-    at j ne = upd_cases (λ (z : Context). excepts z.at ≡ excepts (c j).at) (upd c m y) i x j (λ q. ex ∙ sym (ap (λ (a : ℕ). excepts (c a).at) q ∙ none)) (λ _. ap (λ (z : Context). excepts z.at) (upd_other c m y j ne))
+    at j ne =
+        upd_cases (λ (z : Context). excepts z.at ≡ excepts (c j).at) (upd c m y) i x j
+        (λ q. ex ∙ sym (ap (λ (a : ℕ). excepts (c a).at) q ∙ none))
+        (λ _. ap (λ (z : Context). excepts z.at) (upd_other c m y j ne))
 
     by : (a : Option ℕ) → o n ≡ a → excepted_by a (upd (upd c m y) i x) n ≡ excepted_by a c n
     by None e = refl

@@ -25,7 +25,8 @@ module _ (b : Board) (k : KernelState) (sh : Tells k (shown b)) where
   pub present_is : (id : ThreadId) → is_present k id ≡ is_present_in (b.seen id.number).word id
   present_is id =
       present_by k (shown b) id sh
-      ∙ ap (λ (q : Bool). eqb (b.seen id.number).word.version id.version && not q) (dead_by (excepted_by (b.owner id.number) b.context id.number) (b.seen id.number).word.state)
+      ∙ ap (λ (q : Bool). eqb (b.seen id.number).word.version id.version && not q)
+      (dead_by (excepted_by (b.owner id.number) b.context id.number) (b.seen id.number).word.state)
 
   pub gone_row : (g : Programs) (an : IsAnswered k) (id : ThreadId) (st : Status) (b' : Board) →
       (b.seen id.number).word.version ≡ id.version →
@@ -38,7 +39,9 @@ module _ (b : Board) (k : KernelState) (sh : Tells k (shown b)) where
       let none : (shown b id.number).told ≡ None = unanswered_by k (shown b) sh an id.number (ap is_waiting_status is ∙ waits) in
       record {
         new = answered_in (with_status k id.number status.Run) id (b.seen id.number).last reply.Gone;
-        step = stepped k _ _ outcome.Freed (may_gone k (shown b) id (b.seen id.number).last sh v (ap is_dead_status is ∙ alive) (ap (waits_for_absent k) is ∙ absent) refl) (gone_is k id (b.seen id.number).last);
+        step =
+            stepped k _ _ outcome.Freed (may_gone k (shown b) id (b.seen id.number).last sh v (ap is_dead_status is ∙ alive)
+            (ap (waits_for_absent k) is ∙ absent) refl) (gone_is k id (b.seen id.number).last);
         plays = position;
         lines = λ j. tells_gone k (shown b) id (b.seen id.number).last v refl none sh j ∙ lines j;
       }

@@ -1,5 +1,6 @@
 -- Each step of a receive and of a pick decides its point, or leaves what the board shows.
-use Rattle.std.proofs.Common.{◌≡◌, ◌≢◌, ℕ, Bool, true, false, cond, refl, sym, ap, ◌∙◌, subst, Option, Some, None, arith, not, eqb}
+use Rattle.std.proofs.Common.{◌≡◌, ◌≢◌, ℕ, Bool, true, false, cond, refl, sym, ap}
+use Rattle.std.proofs.Common.{◌∙◌, subst, Option, Some, None, arith, not, eqb}
 use Rattle.std.proofs.lemmas.Bool.{and_parts, eq-eqb, eqb-true, ne_eqb}
 use Rattle.k_ids.specs.declared.threads.ThreadId.{ThreadId}
 use Rattle.k_ids.specs.declared.threads.Status.TheVariants as status
@@ -34,7 +35,8 @@ use Rattle.k_ipc.specs.declared.receive.ReceiveLocked.TheVariants as locked
 use Rattle.k_ipc.specs.declared.receive.ReceiveRelease.{ReceiveRelease}
 use Rattle.k_ipc.specs.declared.receive.ReceiveRelease.TheVariants as returns
 use Rattle.k_ipc.specs.declared.receive.ReceivePushing.TheVariants as pushing
-use Rattle.k_ipc.specs.ReceiveTable.{ReceiveAt, act_of, after_free, after_wait, candidates_after, nobody_left, picking_by, point_by, released_end, stays_out, still_waits, try_next, try_sender}
+use Rattle.k_ipc.specs.ReceiveTable.{ReceiveAt, act_of, after_free, after_wait, candidates_after, nobody_left}
+use Rattle.k_ipc.specs.ReceiveTable.{picking_by, point_by, released_end, stays_out, still_waits, try_next, try_sender}
 use Rattle.k_ipc.specs.ReceiveTable as receive
 use Rattle.k_board.specs.Words.{Begins, Programs, Seen, act_noted, answered, called, noted, tells}
 use Rattle.k_board.specs.Boards.{Board, Context, InReceive, hand_of}
@@ -51,7 +53,8 @@ use Rattle.k_points.proofs.Calls.{now_line}
 use Rattle.k_points.proofs.Cases.{by_number}
 use Rattle.k_points.proofs.Gones.{gone_row, present_is}
 use Rattle.k_points.proofs.Quiet.{acquired_still, released_still, settled_still, still}
-use Rattle.k_points.proofs.ReceiveRows.{nobody_row, own_row, pick_act, pick_took_row, pick_waits_row, plain_act, took_row, took_seen, waits_row}
+use Rattle.k_points.proofs.ReceiveRows.{nobody_row, own_row, pick_act, pick_took_row}
+use Rattle.k_points.proofs.ReceiveRows.{pick_waits_row, plain_act, took_row, took_seen, waits_row}
 use Rattle.k_points.proofs.SendPoints.{alive_own}
 use Rattle.k_points.proofs.Status.{excepted_same, unanswered_by, unexcepted}
 use Rattle.k_points.proofs.Waiters.{IsFirst, first_found, none_found}
@@ -74,7 +77,9 @@ module _ (g : Programs) (b : Board) (k : KernelState) (ok : PlacesHold g b) (sh 
   Sound p = AllSay g b c.caller.number (b.context c.caller.number) (facts_receive c p)
 
   abbrev Step : ReceiveAt → Response → Type 0
-  Step p r = Goes g b k (receive.points c (b.seen c.caller.number).word (hand_of b (b.queue c.caller.number)) p r) (receive_board g b c.caller.number (b.context c.caller.number) c p r)
+  Step p r =
+      Goes g b k (receive.points c (b.seen c.caller.number).word (hand_of b (b.queue c.caller.number)) p r)
+      (receive_board g b c.caller.number (b.context c.caller.number) c p r)
 
   abbrev next : ReceiveLocked → Context
   next q = record (b.context c.caller.number) { at = InReceive c (receive.Locked q) }
@@ -84,7 +89,11 @@ module _ (g : Programs) (b : Board) (k : KernelState) (ok : PlacesHold g b) (sh 
 
   -- a section that has read, and whose location is this now
   abbrev Led : Option Point → ReceiveLocked → Type 0
-  Led o q = Goes g b k o (record b { seen = noted g b.seen (b.context c.caller.number).position o; context = upd b.context c.caller.number (next q) })
+  Led o q =
+      Goes g b k o (record b {
+        seen = noted g b.seen (b.context c.caller.number).position o;
+        context = upd b.context c.caller.number (next q);
+      })
 
   -- the section's context alone changes
   quiet : (p : ReceiveAt) (x' : Context) → Here p → excepts x'.at ≡ excepts (InReceive c p) → (n : ℕ) →
@@ -99,7 +108,9 @@ module _ (g : Programs) (b : Board) (k : KernelState) (ok : PlacesHold g b) (sh 
   -- Who is excepted stays, where the section's old and new locations except nobody.
   alike : (p : ReceiveAt) (x' : Context) → Here p → excepts (InReceive c p) ≡ None → excepts x'.at ≡ None → (j : ℕ) →
       excepted_by (b.owner j) (upd b.context c.caller.number x') j ≡ excepted_by (b.owner j) b.context j
-  alike p x' at old new j = excepted_same (b.owner j) b.context c.caller.number x' j (ap (λ (o : Option ℕ). is_number o j) (new ∙ sym (ap excepts at ∙ old)))
+  alike p x' at old new j =
+      excepted_same (b.owner j) b.context c.caller.number x' j
+      (ap (λ (o : Option ℕ). is_number o j) (new ∙ sym (ap excepts at ∙ old)))
 
   -- the caller isn't excepted while its section has its lock, and excepts nobody
   free_me : (p : ReceiveAt) → Here p → excepts (InReceive c p) ≡ None → b.owner c.caller.number ≡ Some c.caller.number →
@@ -122,15 +133,32 @@ module _ (g : Programs) (b : Board) (k : KernelState) (ok : PlacesHold g b) (sh 
   chosen : (p : ReceiveAt) → Here p → excepts (InReceive c p) ≡ None → (c.picks ≡ false) × (is_own c.from c.caller ≡ false) →
       (b.seen c.caller.number).word ≡ (b.context c.caller.number).own → IsRun (b.context c.caller.number).own →
       c.caller.version ≡ (b.seen c.caller.number).word.version →
-      Begins g (b.seen c.caller.number).position (b.seen c.caller.number).told (receive_phase c) (b.context c.caller.number).position →
+      Begins g (b.seen c.caller.number).position (b.seen c.caller.number).told (receive_phase c)
+      (b.context c.caller.number).position →
       (o : Option SenderEntry) → (o ≡ None → match_at k c.caller c.from ≡ None) →
-      Goes g b k (nobody_left c o) (record b { seen = noted g b.seen (b.context c.caller.number).position (nobody_left c o); context = upd b.context c.caller.number (record (b.context c.caller.number) { at = InReceive c (receive.Locked (try_sender c o)) }) })
+      Goes g b k (nobody_left c o) (record b {
+        seen = noted g b.seen (b.context c.caller.number).position (nobody_left c o);
+        context = upd b.context c.caller.number (record (b.context c.caller.number) {
+          at =
+              InReceive c (receive.Locked (try_sender c o));
+        });
+      })
   chosen p at ex plain own run v plays (Some e) lists = quiet p _ at (sym ex)
   chosen p at ex plain own run v plays None lists = go c.zero refl
     where
       go : (z : Bool) → c.zero ≡ z →
-          Goes g b k (cond z (Some (point_by c (act_of c) outcome.Nobody)) None) (record b { seen = noted g b.seen (b.context c.caller.number).position (cond z (Some (point_by c (act_of c) outcome.Nobody)) None); context = upd b.context c.caller.number (next (cond z (locked.Release returns.Nobody) locked.CommitWait)) })
-      go true z = plainly outcome.Nobody _ plain.0 (nobody_row g b k sh an c (b.context c.caller.number).own own run v (b.context c.caller.number).position plays _ plain.1 z (lists refl) (alike p (next (locked.Release returns.Nobody)) at ex refl) (λ j. ap (λ (a : Act). act_noted g b.seen c.caller (b.context c.caller.number).position a outcome.Nobody j) (plain_act c plain.0)))
+          Goes g b k (cond z (Some (point_by c (act_of c) outcome.Nobody)) None)
+          (record b {
+            seen = noted g b.seen (b.context c.caller.number).position
+                (cond z (Some (point_by c (act_of c) outcome.Nobody)) None);
+            context = upd b.context c.caller.number (next (cond z (locked.Release returns.Nobody) locked.CommitWait));
+          })
+      go true z =
+          plainly outcome.Nobody _ plain.0 (nobody_row g b k sh an c (b.context c.caller.number).own own run v
+          (b.context c.caller.number).position plays _ plain.1 z (lists refl)
+          (alike p (next (locked.Release returns.Nobody)) at ex refl)
+          (λ j. ap (λ (a : Act). act_noted g b.seen c.caller (b.context c.caller.number).position a outcome.Nobody j)
+          (plain_act c plain.0)))
       go false z = quiet p _ at (sym ex)
 
   loads : (w : StateWord) → (b.seen c.caller.number).word ≡ w → Here (receive.Locked locked.LoadOwn) →
@@ -138,21 +166,30 @@ module _ (g : Programs) (b : Board) (k : KernelState) (ok : PlacesHold g b) (sh 
   loads w is at h = go (is_dead w) refl
     where
       go : (dead : Bool) → is_dead w ≡ dead →
-          Led (cond dead None (nobody_left c (first_admitted c.from (b.queue c.caller.number)))) (cond dead (locked.Release returns.Dead) (try_sender c (first_admitted c.from (b.queue c.caller.number))))
+          Led (cond dead None (nobody_left c (first_admitted c.from (b.queue c.caller.number))))
+          (cond dead (locked.Release returns.Dead) (try_sender c (first_admitted c.from (b.queue c.caller.number))))
       go true d = quiet (receive.Locked locked.LoadOwn) (next (locked.Release returns.Dead)) at refl
-      go false d = chosen (receive.Locked locked.LoadOwn) at refl h.0 (alive_own _ _ h.1.1.1.1.1.0.1 (ap is_dead is ∙ d)) h.1.1.1.1.1.0.0 h.1.1.0.1 h.1.1.1.1.0.1 (first_admitted c.from (b.queue c.caller.number)) (λ q. none_found b k c h.1.1.0.1 (li.own c _ at h.1.0 (ap is_dead is ∙ d)) (none_left c b.seen (b.queue c.caller.number) q))
+      go false d =
+          chosen (receive.Locked locked.LoadOwn) at refl h.0 (alive_own _ _ h.1.1.1.1.1.0.1
+          (ap is_dead is ∙ d)) h.1.1.1.1.1.0.0 h.1.1.0.1 h.1.1.1.1.0.1 (first_admitted c.from (b.queue c.caller.number))
+          (λ q. none_found b k c h.1.1.0.1 (li.own c _ at h.1.0 (ap is_dead is ∙ d))
+          (none_left c b.seen (b.queue c.caller.number) q))
 
   senders : (e : SenderEntry) (w : StateWord) → (b.seen (number_of e)).word ≡ w → Here (receive.Locked (locked.LoadSender e)) →
       Sound (receive.Locked (locked.LoadSender e)) → Step (receive.Locked (locked.LoadSender e)) (asks.Word w)
   senders e w is at h = go (still_waits c e w) refl
     where
       go : (waits_ : Bool) → still_waits c e w ≡ waits_ →
-          Led (cond waits_ None (nobody_left c (candidates_after c (hand_of b (b.queue c.caller.number)) e))) (cond waits_ (locked.FreeSender e w) (try_sender c (candidates_after c (hand_of b (b.queue c.caller.number)) e)))
+          Led (cond waits_ None (nobody_left c (candidates_after c (hand_of b (b.queue c.caller.number)) e)))
+          (cond waits_ (locked.FreeSender e w) (try_sender c (candidates_after c (hand_of b (b.queue c.caller.number)) e)))
       go true s = quiet (receive.Locked (locked.LoadSender e)) (next (locked.FreeSender e w)) at refl
       go false s =
           let kept = h.1.1.1.1.1.0 in
           let reaches = h.1.1.1.1.1.1.0 in
-          chosen (receive.Locked (locked.LoadSender e)) at refl h.0 kept.1 kept.0 h.1.1.0.1 h.1.1.1.1.0.1 (candidates_after c (hand_of b (b.queue c.caller.number)) e) (λ q. none_found b k c h.1.1.0.1 (li.own c _ at h.1.0 (run_alive _ _ kept.1 kept.0)) (none_end c b.seen (b.queue c.caller.number) e reaches.2 (λ _. ap (still_waits c e) is ∙ s) reaches.4 q))
+          chosen (receive.Locked (locked.LoadSender e)) at refl h.0 kept.1 kept.0 h.1.1.0.1 h.1.1.1.1.0.1
+          (candidates_after c (hand_of b (b.queue c.caller.number)) e)
+          (λ q. none_found b k c h.1.1.0.1 (li.own c _ at h.1.0 (run_alive _ _ kept.1 kept.0))
+          (none_end c b.seen (b.queue c.caller.number) e reaches.2 (λ _. ap (still_waits c e) is ∙ s) reaches.4 q))
 
   -- OTHER LOCATIONS OF A RECEIVE
 
@@ -161,17 +198,33 @@ module _ (g : Programs) (b : Board) (k : KernelState) (ok : PlacesHold g b) (sh 
   selfs w is at h = go (is_dead w) refl
     where
       go : (dead : Bool) → is_dead w ≡ dead →
-          Goes g b k (cond dead None (Some (point_by c (act_of c) outcome.Own))) (record b { seen = noted g b.seen (b.context c.caller.number).position (cond dead None (Some (point_by c (act_of c) outcome.Own))); context = upd b.context c.caller.number (ended dead) })
+          Goes g b k (cond dead None (Some (point_by c (act_of c) outcome.Own)))
+          (record b {
+            seen = noted g b.seen (b.context c.caller.number).position
+                (cond dead None (Some (point_by c (act_of c) outcome.Own)));
+            context = upd b.context c.caller.number (ended dead);
+          })
       go true d = quiet (receive.Outside outside.LoadCaller) (ended true) at refl
-      go false d = plainly outcome.Own _ h.0.0 (own_row g b k sh an c (b.context c.caller.number).own (alive_own _ _ h.1.1.1.1.0.1 (ap is_dead is ∙ d)) h.1.1.1.1.0.0 h.1.0.1 (b.context c.caller.number).position h.1.1.1.0.1 _ h.0.1 (alike (receive.Outside outside.LoadCaller) (ended false) at refl refl) (λ j. ap (λ (a : Act). act_noted g b.seen c.caller (b.context c.caller.number).position a outcome.Own j) (plain_act c h.0.0)))
+      go false d =
+          plainly outcome.Own _ h.0.0 (own_row g b k sh an c (b.context c.caller.number).own
+          (alive_own _ _ h.1.1.1.1.0.1 (ap is_dead is ∙ d)) h.1.1.1.1.0.0 h.1.0.1
+          (b.context c.caller.number).position h.1.1.1.0.1 _ h.0.1
+          (alike (receive.Outside outside.LoadCaller) (ended false) at refl refl)
+          (λ j. ap (λ (a : Act). act_noted g b.seen c.caller (b.context c.caller.number).position a outcome.Own j)
+          (plain_act c h.0.0)))
 
   waits : Here (receive.Locked locked.CommitWait) → Sound (receive.Locked locked.CommitWait) →
       Step (receive.Locked locked.CommitWait) asks.Won
   waits at h =
       let kept = h.1.1.1.1.1.0 in
-      plainly outcome.Waits _ h.0.0 (waits_row g b k sh an c (b.context c.caller.number).own kept.1 kept.0 h.1.1.0.1 (b.context c.caller.number).position h.1.1.1.1.0.1 _ h.0.1 h.1.1.1.1.1.1.0 (none_found b k c h.1.1.0.1 (li.own c _ at h.1.0 (run_alive _ _ kept.1 kept.0)) h.1.1.1.1.1.1.1.0.2) (free_me (receive.Locked locked.CommitWait) at refl h.1.0)
+      plainly outcome.Waits _ h.0.0 (waits_row g b k sh an c (b.context c.caller.number).own kept.1 kept.0 h.1.1.0.1
+      (b.context c.caller.number).position h.1.1.1.1.0.1 _ h.0.1 h.1.1.1.1.1.1.0
+      (none_found b k c h.1.1.0.1 (li.own c _ at h.1.0 (run_alive _ _ kept.1 kept.0)) h.1.1.1.1.1.1.1.0.2)
+      (free_me (receive.Locked locked.CommitWait) at refl h.1.0)
       (alike (receive.Locked locked.CommitWait) _ at refl (after_none c.from))
-      (λ j. ap (λ (a : Act). write (act_noted g b.seen c.caller (b.context c.caller.number).position a outcome.Waits) c.caller.number (in_state (state.Receiving c.from) (b.context c.caller.number).own) j) (plain_act c h.0.0)))
+      (λ j. ap (λ (a : Act). write (act_noted g b.seen c.caller
+      (b.context c.caller.number).position a outcome.Waits) c.caller.number
+      (in_state (state.Receiving c.from) (b.context c.caller.number).own) j) (plain_act c h.0.0)))
     where
       after_none : (f : Option ThreadId) → excepts (InReceive c (receive.Locked (after_wait f))) ≡ None
       after_none None = refl
@@ -188,40 +241,65 @@ module _ (g : Programs) (b : Board) (k : KernelState) (ok : PlacesHold g b) (sh 
       state_is =
           ap (λ (u : StateWord). u.state) h.1.1.1.1.0.1 ∙ h.1.1.1.1.0.2 ∙ ap (λ (o : Option ThreadId). state.Receiving o) h.0
 
-      me_line : line_answered (line_status (shown b) c.caller.number status.Run) c.caller.number reply.Gone c.caller.number ≡ shown_by true (answered (b.seen c.caller.number) reply.Gone)
+      me_line : line_answered (line_status (shown b) c.caller.number status.Run) c.caller.number reply.Gone c.caller.number ≡
+          shown_by true (answered (b.seen c.caller.number) reply.Gone)
       me_line = grind (arith, upd_tells, state_is)
 
       gone_line : (j : ℕ) →
-          line_answered (line_status (shown b) c.caller.number status.Run) c.caller.number reply.Gone j ≡ shown_by (excepted_by (b.owner j) (upd b.context c.caller.number (next (locked.CommitGone f))) j) (upd b.seen c.caller.number (answered (b.seen c.caller.number) reply.Gone) j)
+          line_answered (line_status (shown b) c.caller.number status.Run) c.caller.number reply.Gone j ≡
+          shown_by (excepted_by (b.owner j) (upd b.context c.caller.number (next (locked.CommitGone f))) j)
+          (upd b.seen c.caller.number (answered (b.seen c.caller.number) reply.Gone) j)
       gone_line =
-          by_number (λ j. line_answered (line_status (shown b) c.caller.number status.Run) c.caller.number reply.Gone j ≡ shown_by (excepted_by (b.owner j) (upd b.context c.caller.number (next (locked.CommitGone f))) j) (upd b.seen c.caller.number (answered (b.seen c.caller.number) reply.Gone) j)) c.caller.number
-          (let e : excepted_by (b.owner c.caller.number) (upd b.context c.caller.number (next (locked.CommitGone f))) c.caller.number ≡ true = rw (mine, upd_same b.context c.caller.number (next (locked.CommitGone f))) (eq-eqb c.caller.number c.caller.number refl) in
-          me_line ∙ (λ d. shown_by (sym e d) (sym (upd_same b.seen c.caller.number (answered (b.seen c.caller.number) reply.Gone)) d)))
-          (λ j ne. let e : excepted_by (b.owner j) (upd b.context c.caller.number (next (locked.CommitGone f))) j ≡ excepted_by (b.owner j) b.context j = excepted_same (b.owner j) b.context c.caller.number (next (locked.CommitGone f)) j (ne_eqb c.caller.number j (λ q. ne (sym q)) ∙ sym (ap (λ (o : Option ℕ). is_number o j) (ap excepts at))) in
-          upd_other (line_status (shown b) c.caller.number status.Run) c.caller.number _ j ne ∙ upd_other (shown b) c.caller.number _ j ne ∙ (λ d. shown_by (sym e d) (sym (upd_other b.seen c.caller.number (answered (b.seen c.caller.number) reply.Gone) j ne) d)))
+          by_number (λ j. line_answered (line_status (shown b) c.caller.number status.Run) c.caller.number reply.Gone j ≡
+          shown_by (excepted_by (b.owner j) (upd b.context c.caller.number (next (locked.CommitGone f))) j)
+          (upd b.seen c.caller.number (answered (b.seen c.caller.number) reply.Gone) j)) c.caller.number
+          (let e : excepted_by (b.owner c.caller.number) (upd b.context c.caller.number
+          (next (locked.CommitGone f))) c.caller.number ≡ true =
+          rw (mine, upd_same b.context c.caller.number (next (locked.CommitGone f)))
+          (eq-eqb c.caller.number c.caller.number refl) in
+          me_line ∙ (λ d. shown_by (sym e d)
+          (sym (upd_same b.seen c.caller.number (answered (b.seen c.caller.number) reply.Gone)) d)))
+          (λ j ne. let e : excepted_by (b.owner j) (upd b.context c.caller.number (next (locked.CommitGone f))) j ≡
+          excepted_by (b.owner j) b.context j = excepted_same (b.owner j) b.context c.caller.number
+          (next (locked.CommitGone f)) j (ne_eqb c.caller.number j (λ q. ne (sym q))
+          ∙ sym (ap (λ (o : Option ℕ). is_number o j) (ap excepts at))) in
+          upd_other (line_status (shown b) c.caller.number status.Run) c.caller.number _ j ne
+          ∙ upd_other (shown b) c.caller.number _ j ne ∙ (λ d.
+          shown_by (sym e d) (sym (upd_other b.seen c.caller.number (answered (b.seen c.caller.number) reply.Gone) j ne) d)))
 
       go : (present : Bool) → is_present_in w f ≡ present →
-          Led (cond present None (Some (point_by c act.Gone outcome.Freed))) (cond present (locked.Release returns.Waits) (locked.CommitGone f))
+          Led (cond present None (Some (point_by c act.Gone outcome.Freed)))
+          (cond present (locked.Release returns.Waits) (locked.CommitGone f))
       go true p = quiet (receive.Locked (locked.LoadPartner f)) (next (locked.Release returns.Waits)) at refl
       go false p =
-          gone_row b k sh g an c.caller (status.Receiving (Some f)) _ (sym h.1.0.1) (rw (free_me (receive.Locked (locked.LoadPartner f)) at refl mine, state_is) refl) refl refl
+          gone_row b k sh g an c.caller (status.Receiving (Some f)) _ (sym h.1.0.1)
+          (rw (free_me (receive.Locked (locked.LoadPartner f)) at refl mine, state_is) refl) refl refl
           (ap not (present_is b k sh f ∙ ap (λ (u : StateWord). is_present_in u f) is ∙ p))
-          (ap (λ (u : Seen). u.position) (upd_same b.seen c.caller.number (answered (b.seen c.caller.number) reply.Gone))) gone_line
+          (ap (λ (u : Seen). u.position) (upd_same b.seen c.caller.number
+          (answered (b.seen c.caller.number) reply.Gone))) gone_line
 
   gone_shown : (v : Seen) (own : StateWord) → v.word ≡ own → (f : Option ThreadId) → own.state ≡ state.Receiving f →
       shown_by false (with_word v (in_state (state.Run result4.Gone) own)) ≡ shown_by true v
   gone_shown v own e f q =
       let s : v.word.state ≡ state.Receiving f = ap (λ (u : StateWord). u.state) e
-      ∙ q in rw s (λ d. record (shown_by false (with_word v (in_state (state.Run result4.Gone) own))) { version = (sym e d).version })
+      ∙ q in rw s (λ d. record (shown_by false (with_word v (in_state (state.Run result4.Gone) own))) {
+        version =
+            (sym e d).version;
+      })
 
   ended_shown : (v : Seen) (own : StateWord) → v.word ≡ own → own.state ≡ state.Picking →
       shown_by false (with_word v (on_in (state.Run result4.Plain) own)) ≡ shown_by true v
   ended_shown v own e q =
       let s : v.word.state ≡ state.Picking = ap (λ (u : StateWord). u.state) e
-      ∙ q in rw s (λ d. record (shown_by false (with_word v (on_in (state.Run result4.Plain) own))) { version = (sym e d).version })
+      ∙ q in rw s (λ d. record (shown_by false (with_word v (on_in (state.Run result4.Plain) own))) {
+        version =
+            (sym e d).version;
+      })
 
   free_none : (e : SenderEntry) (w : StateWord) → excepts (InReceive c (receive.Locked (after_free e w))) ≡ None
-  free_none e w = if_cases (λ q. excepts (InReceive c (receive.Locked q)) ≡ None) (stays_out w) (locked.Release (returns.Taken e)) (locked.AcquireReady e) (λ _. refl) (λ _. refl)
+  free_none e w =
+      if_cases (λ q. excepts (InReceive c (receive.Locked q)) ≡ None) (stays_out w) (locked.Release (returns.Taken e))
+      (locked.AcquireReady e) (λ _. refl) (λ _. refl)
 
   next_none : (o : Option SenderEntry) → excepts (InReceive c (receive.Locked (try_next o))) ≡ None
   next_none None = refl
@@ -271,8 +349,14 @@ module _ (g : Programs) (b : Board) (k : KernelState) (ok : PlacesHold g b) (sh 
 
     -- what is written, with the caller's number noted as v
     written_is : (v : Seen) (j : ℕ) →
-        write (cond (is_joined_to (upd b.seen c.caller.number v (number_of e)).word.state) (upd b.seen c.caller.number v) (tells (upd b.seen c.caller.number v) (sender_of e) reply.Sent)) (number_of e) (freed c.caller w) j ≡ took_seen b c.caller (sender_of e) (message_of e) w v (now_line b c.caller) (is_joined_to w.state) j
-    written_is v j = ap (λ (d : Bool). write (cond d (upd b.seen c.caller.number v) (tells (upd b.seen c.caller.number v) (sender_of e) reply.Sent)) (number_of e) (freed c.caller w) j) (ap (λ (u : Seen). is_joined_to u.word.state) (upd_other b.seen c.caller.number v (number_of e) sender_apart) ∙ ap (λ (u : StateWord). is_joined_to u.state) won)
+        write (cond (is_joined_to (upd b.seen c.caller.number v (number_of e)).word.state) (upd b.seen c.caller.number v)
+        (tells (upd b.seen c.caller.number v) (sender_of e) reply.Sent)) (number_of e) (freed c.caller w) j ≡
+        took_seen b c.caller (sender_of e) (message_of e) w v (now_line b c.caller) (is_joined_to w.state) j
+    written_is v j =
+        ap (λ (d : Bool). write (cond d (upd b.seen c.caller.number v)
+        (tells (upd b.seen c.caller.number v) (sender_of e) reply.Sent)) (number_of e) (freed c.caller w) j)
+        (ap (λ (u : Seen). is_joined_to u.word.state) (upd_other b.seen c.caller.number v (number_of e) sender_apart)
+        ∙ ap (λ (u : StateWord). is_joined_to u.state) won)
 
   run_sends_not : (own : StateWord) → (b.seen c.caller.number).word ≡ own → IsRun own → (to : ThreadId) (joined : Bool) →
       (b.seen c.caller.number).word.state ≡ state.Sending to joined → ⊥
@@ -290,11 +374,18 @@ module _ (g : Programs) (b : Board) (k : KernelState) (ok : PlacesHold g b) (sh 
       let kept = h.1.1.1.1.1.1.0 in
       let reaches = h.1.1.1.1.1.1.1.0 in
       let idle = run_sends_not (b.context c.caller.number).own kept.1 kept.0 in
-      plainly (outcome.Took (sender_of e) (message_of e)) _ h.0.0 (took_row g b k sh an c (b.context c.caller.number).own kept.1 kept.0 h.1.1.1.0.1 (b.context c.caller.number).position h.1.1.1.1.1.0.1 _ h.0.1 e w (first_found b k c h.1.1.1.0.1 (li.own c _ at h.1.0 (run_alive _ _ kept.1 kept.0)) e reaches.2 reaches.3 (ap (still_waits c e) won ∙ h.1.1.0) reaches.4)
-      (sender_apart e w won h.1.1.0 idle) won (sender_version e w won h.1.1.0 idle) (sender_none e w won h.1.1.0 idle) (sender_free e w won h.1.1.0 idle)
+      plainly (outcome.Took (sender_of e) (message_of e)) _ h.0.0
+      (took_row g b k sh an c (b.context c.caller.number).own kept.1 kept.0 h.1.1.1.0.1
+      (b.context c.caller.number).position h.1.1.1.1.1.0.1 _ h.0.1 e w
+      (first_found b k c h.1.1.1.0.1 (li.own c _ at h.1.0 (run_alive _ _ kept.1 kept.0)) e reaches.2 reaches.3
+      (ap (still_waits c e) won ∙ h.1.1.0) reaches.4)
+      (sender_apart e w won h.1.1.0 idle) won (sender_version e w won h.1.1.0 idle) (sender_none e w won h.1.1.0 idle)
+      (sender_free e w won h.1.1.0 idle)
       (alike (receive.Locked (locked.FreeSender e w)) _ at refl (free_none e w))
-      (λ j. ap (λ (a : Act). write (act_noted g b.seen c.caller (b.context c.caller.number).position a (outcome.Took (sender_of e) (message_of e))) (number_of e) (freed c.caller w) j) (plain_act c h.0.0)
-      ∙ written_is e w won h.1.1.0 idle (called (b.seen c.caller.number) (Some (reply.Got (sender_of e) (message_of e))) (b.context c.caller.number).position) j))
+      (λ j. ap (λ (a : Act). write (act_noted g b.seen c.caller (b.context c.caller.number).position a
+      (outcome.Took (sender_of e) (message_of e))) (number_of e) (freed c.caller w) j) (plain_act c h.0.0)
+      ∙ written_is e w won h.1.1.0 idle (called (b.seen c.caller.number) (Some (reply.Got (sender_of e) (message_of e)))
+      (b.context c.caller.number).position) j))
 
   pick_takes : (e : SenderEntry) (w : StateWord) → (b.seen (number_of e)).word ≡ w → Here (receive.Locked (locked.FreeNext e w)) →
       Sound (receive.Locked (locked.FreeNext e w)) → Step (receive.Locked (locked.FreeNext e w)) asks.Won
@@ -303,12 +394,21 @@ module _ (g : Programs) (b : Board) (k : KernelState) (ok : PlacesHold g b) (sh 
       let reaches = h.1.1.1.1.1.1.0 in
       let picks : c.picks ≡ true = ap (λ (d : ReceiveCall). d.picks) h.0 in
       let idle = picking_sends_not (b.context c.caller.number).own own.1 own.2 in
-      let next : Context = receive_context (b.context c.caller.number) c (receive.Locked (locked.FreeNext e w)) asks.Won (hand_of b (b.queue c.caller.number)) in
-      picking (outcome.Took (sender_of e) (message_of e)) _ picks (pick_took_row g b k sh an c (ap (λ (u : StateWord). u.state) own.1 ∙ own.2) h.1.0.1 (free_me (receive.Locked (locked.FreeNext e w)) at refl own.0) _ e w (subst (λ (f : Option ThreadId). IsFirst k c.caller f e) (ap (λ (d : ReceiveCall). d.from) h.0) (first_found b k c h.1.0.1 (li.own c _ at own.0 (picking_alive _ _ own.1 own.2)) e reaches.2 reaches.3 (ap (still_waits c e) won ∙ h.1.1.1.1.1.0) reaches.4))
-      (sender_apart e w won h.1.1.1.1.1.0 idle) won (sender_version e w won h.1.1.1.1.1.0 idle) (sender_none e w won h.1.1.1.1.1.0 idle) (sender_free e w won h.1.1.1.1.1.0 idle)
+      let next : Context = receive_context (b.context c.caller.number) c (receive.Locked (locked.FreeNext e w)) asks.Won
+      (hand_of b (b.queue c.caller.number)) in
+      picking (outcome.Took (sender_of e) (message_of e)) _ picks
+      (pick_took_row g b k sh an c (ap (λ (u : StateWord). u.state) own.1 ∙ own.2) h.1.0.1
+      (free_me (receive.Locked (locked.FreeNext e w)) at refl own.0) _ e w
+      (subst (λ (f : Option ThreadId). IsFirst k c.caller f e) (ap (λ (d : ReceiveCall). d.from) h.0)
+      (first_found b k c h.1.0.1 (li.own c _ at own.0 (picking_alive _ _ own.1 own.2)) e reaches.2 reaches.3
+      (ap (still_waits c e) won ∙ h.1.1.1.1.1.0) reaches.4))
+      (sender_apart e w won h.1.1.1.1.1.0 idle) won (sender_version e w won h.1.1.1.1.1.0 idle)
+      (sender_none e w won h.1.1.1.1.1.0 idle) (sender_free e w won h.1.1.1.1.1.0 idle)
       (rw (own.0, upd_same b.context c.caller.number next) (eq-eqb c.caller.number c.caller.number refl))
-      (λ j ne. excepted_same (b.owner j) b.context c.caller.number next j (ne_eqb c.caller.number j (λ q. ne (sym q)) ∙ sym (ap (λ (o : Option ℕ). is_number o j) (ap excepts at))))
-      (λ j. ap (λ (a : Act). write (act_noted g b.seen c.caller (b.context c.caller.number).position a (outcome.Took (sender_of e) (message_of e))) (number_of e) (freed c.caller w) j) (pick_act c picks)
+      (λ j ne. excepted_same (b.owner j) b.context c.caller.number next j
+      (ne_eqb c.caller.number j (λ q. ne (sym q)) ∙ sym (ap (λ (o : Option ℕ). is_number o j) (ap excepts at))))
+      (λ j. ap (λ (a : Act). write (act_noted g b.seen c.caller (b.context c.caller.number).position a
+      (outcome.Took (sender_of e) (message_of e))) (number_of e) (freed c.caller w) j) (pick_act c picks)
       ∙ written_is e w won h.1.1.1.1.1.0 idle (answered (b.seen c.caller.number) (reply.Got (sender_of e) (message_of e))) j))
 
   pick_waits : Here (receive.Locked locked.SettlePick) → Sound (receive.Locked locked.SettlePick) →
@@ -316,9 +416,15 @@ module _ (g : Programs) (b : Board) (k : KernelState) (ok : PlacesHold g b) (sh 
   pick_waits at h =
       let own = h.1.1.1.1.0 in
       let picks : c.picks ≡ true = ap (λ (d : ReceiveCall). d.picks) h.0 in
-      picking outcome.Waits _ picks (pick_waits_row g b k sh an c (ap (λ (u : StateWord). u.state) own.1 ∙ own.2) h.1.0.1 (free_me (receive.Locked locked.SettlePick) at refl own.0) _ (subst (λ (f : Option ThreadId). match_at k c.caller f ≡ None) (ap (λ (d : ReceiveCall). d.from) h.0) (none_found b k c h.1.0.1 (li.own c _ at own.0 (picking_alive _ _ own.1 own.2)) h.1.1.1.1.1.0.2))
-      (alike (receive.Locked locked.SettlePick) _ at refl refl) (on_in (state.Receiving None) (b.context c.caller.number).own) (ap (λ (u : StateWord). u.version) (sym own.1)) refl
-      (λ j. ap (λ (a : Act). write (act_noted g b.seen c.caller (b.context c.caller.number).position a outcome.Waits) c.caller.number (on_in (state.Receiving None) (b.context c.caller.number).own) j) (pick_act c picks)))
+      picking outcome.Waits _ picks (pick_waits_row g b k sh an c (ap (λ (u : StateWord). u.state) own.1 ∙ own.2) h.1.0.1
+      (free_me (receive.Locked locked.SettlePick) at refl own.0) _
+      (subst (λ (f : Option ThreadId). match_at k c.caller f ≡ None) (ap (λ (d : ReceiveCall). d.from) h.0)
+      (none_found b k c h.1.0.1 (li.own c _ at own.0 (picking_alive _ _ own.1 own.2)) h.1.1.1.1.1.0.2))
+      (alike (receive.Locked locked.SettlePick) _ at refl refl) (on_in (state.Receiving None) (b.context c.caller.number).own)
+      (ap (λ (u : StateWord). u.version) (sym own.1)) refl
+      (λ j. ap (λ (a : Act). write (act_noted g b.seen c.caller
+      (b.context c.caller.number).position a outcome.Waits) c.caller.number
+      (on_in (state.Receiving None) (b.context c.caller.number).own) j) (pick_act c picks)))
 
   begins_free : (picks : Bool) → excepts (InReceive c (receive.Locked (cond picks locked.LoadPicking locked.LoadOwn))) ≡ None
   begins_free true = refl
@@ -347,28 +453,44 @@ module _ (g : Programs) (b : Board) (k : KernelState) (ok : PlacesHold g b) (sh 
   receive_points (receive.Locked locked.LoadOwn) (asks.Word w) at a h = loads w a at h
   receive_points (receive.Locked (locked.LoadSender e)) (asks.Word w) at a h = senders e w a at h
   receive_points (receive.Locked (locked.FreeSender e w)) asks.Won at a h = takes e w a at h
-  receive_points (receive.Locked (locked.FreeSender e w)) (asks.Lost v) at a h = quiet (receive.Locked (locked.FreeSender e w)) _ at refl
-  receive_points (receive.Locked (locked.AcquireReady e)) asks.Got at a h = quiet (receive.Locked (locked.AcquireReady e)) _ at refl
-  receive_points (receive.Locked (locked.AcquireReady e)) (asks.Owned o) at a h = quiet (receive.Locked (locked.AcquireReady e)) _ at refl
-  receive_points (receive.Pushing (pushing.LoadFreed e)) (asks.Word w) at a h = quiet (receive.Pushing (pushing.LoadFreed e)) _ at refl
-  receive_points (receive.Pushing (pushing.PushFreed e w)) asks.Released at a h = quiet (receive.Pushing (pushing.PushFreed e w)) _ at refl
+  receive_points (receive.Locked (locked.FreeSender e w)) (asks.Lost v) at a h =
+      quiet (receive.Locked (locked.FreeSender e w)) _ at refl
+  receive_points (receive.Locked (locked.AcquireReady e)) asks.Got at a h =
+      quiet (receive.Locked (locked.AcquireReady e)) _ at refl
+  receive_points (receive.Locked (locked.AcquireReady e)) (asks.Owned o) at a h =
+      quiet (receive.Locked (locked.AcquireReady e)) _ at refl
+  receive_points (receive.Pushing (pushing.LoadFreed e)) (asks.Word w) at a h =
+      quiet (receive.Pushing (pushing.LoadFreed e)) _ at refl
+  receive_points (receive.Pushing (pushing.PushFreed e w)) asks.Released at a h =
+      quiet (receive.Pushing (pushing.PushFreed e w)) _ at refl
   receive_points (receive.Locked locked.CommitWait) asks.Won at a h = waits at h
-  receive_points (receive.Locked locked.CommitWait) (asks.Lost v) at a h = never_lost v (b.context c.caller.number).own h.1.1.1.1.1.0.1 a
+  receive_points (receive.Locked locked.CommitWait) (asks.Lost v) at a h =
+      never_lost v (b.context c.caller.number).own h.1.1.1.1.1.0.1 a
   receive_points (receive.Locked (locked.LoadPartner f)) (asks.Word w) at a h = partners f w a at h
   receive_points (receive.Locked (locked.CommitGone f)) asks.Won at a h =
       let own = h.1.1.1.0 in λ n. sh n
-      ∙ sym (settled_still b c.caller.number _ c.caller.number _ own.0 refl (ap excepts at) (gone_shown (b.seen c.caller.number) (b.context c.caller.number).own own.1 c.from own.2) n)
-  receive_points (receive.Locked (locked.CommitGone f)) (asks.Lost v) at a h = never_lost v (b.context c.caller.number).own h.1.1.1.0.1 a
-  receive_points (receive.Locked locked.LoadPicking) (asks.Word w) at a h = quiet (receive.Locked locked.LoadPicking) _ at (picking_none (first_admitted c.from (b.queue c.caller.number)) w.state)
-  receive_points (receive.Locked (locked.LoadNext e)) (asks.Word w) at a h = quiet (receive.Locked (locked.LoadNext e)) _ at (if_cases (λ q. excepts (InReceive c (receive.Locked q)) ≡ None) (still_waits c e w) (locked.FreeNext e w) (try_next (candidates_after c (hand_of b (b.queue c.caller.number)) e)) (λ _. refl) (λ _. next_none (candidates_after c (hand_of b (b.queue c.caller.number)) e)))
+      ∙ sym (settled_still b c.caller.number _ c.caller.number _ own.0 refl (ap excepts at)
+      (gone_shown (b.seen c.caller.number) (b.context c.caller.number).own own.1 c.from own.2) n)
+  receive_points (receive.Locked (locked.CommitGone f)) (asks.Lost v) at a h =
+      never_lost v (b.context c.caller.number).own h.1.1.1.0.1 a
+  receive_points (receive.Locked locked.LoadPicking) (asks.Word w) at a h =
+      quiet (receive.Locked locked.LoadPicking) _ at (picking_none (first_admitted c.from (b.queue c.caller.number)) w.state)
+  receive_points (receive.Locked (locked.LoadNext e)) (asks.Word w) at a h =
+      quiet (receive.Locked (locked.LoadNext e)) _ at (if_cases (λ q. excepts (InReceive c (receive.Locked q)) ≡ None)
+      (still_waits c e w) (locked.FreeNext e w) (try_next (candidates_after c (hand_of b (b.queue c.caller.number)) e))
+      (λ _. refl) (λ _. next_none (candidates_after c (hand_of b (b.queue c.caller.number)) e)))
   receive_points (receive.Locked (locked.FreeNext e w)) asks.Won at a h = pick_takes e w a at h
-  receive_points (receive.Locked (locked.FreeNext e w)) (asks.Lost v) at a h = quiet (receive.Locked (locked.FreeNext e w)) _ at refl
+  receive_points (receive.Locked (locked.FreeNext e w)) (asks.Lost v) at a h =
+      quiet (receive.Locked (locked.FreeNext e w)) _ at refl
   receive_points (receive.Locked (locked.EndPick e w)) asks.Won at a h =
       let own = h.1.1.1.1.0 in λ n. sh n
-      ∙ sym (settled_still b c.caller.number _ c.caller.number _ own.0 (free_none e w) (ap excepts at) (ended_shown (b.seen c.caller.number) (b.context c.caller.number).own own.1 own.2) n)
-  receive_points (receive.Locked (locked.EndPick e w)) (asks.Lost v) at a h = never_lost v (b.context c.caller.number).own h.1.1.1.1.0.1 a
+      ∙ sym (settled_still b c.caller.number _ c.caller.number _ own.0 (free_none e w) (ap excepts at)
+      (ended_shown (b.seen c.caller.number) (b.context c.caller.number).own own.1 own.2) n)
+  receive_points (receive.Locked (locked.EndPick e w)) (asks.Lost v) at a h =
+      never_lost v (b.context c.caller.number).own h.1.1.1.1.0.1 a
   receive_points (receive.Locked locked.SettlePick) asks.Won at a h = pick_waits at h
-  receive_points (receive.Locked locked.SettlePick) (asks.Lost v) at a h = never_lost v (b.context c.caller.number).own h.1.1.1.1.0.1 a
+  receive_points (receive.Locked locked.SettlePick) (asks.Lost v) at a h =
+      never_lost v (b.context c.caller.number).own h.1.1.1.1.0.1 a
   receive_points (receive.Locked (locked.Release r)) asks.Released at a h = release_points r at h
   receive_points (receive.Outside (outside.Ended w)) r at a h = absurd h.0
   receive_points p r at a h = absurd a

@@ -14,7 +14,9 @@ use Rattle.k_ids.specs.declared.calls.Outcome.TheVariants as outcome
 use Rattle.k_ids.specs.declared.histories.Event.{Event}
 use Rattle.k_model.specs.Maps.{lowest}
 use Rattle.k_model.specs.State.{KernelState, id_of, is_present, same_id, found_of, answered, takes_from, with_status, is_dead}
-use Rattle.k_model.specs.Step.{send, passed, queued, receive, received, taken, match_at, entry_at, is_own, step, made, acted, called, may_act, is_enabled, outcome_of, status_after, create, created, destroy, killed, renewed, is_free, alive, worn}
+use Rattle.k_model.specs.Step.{send, passed, queued, receive, received, taken, match_at, entry_at, is_own}
+use Rattle.k_model.specs.Step.{step, made, acted, called, may_act, is_enabled, outcome_of, status_after}
+use Rattle.k_model.specs.Step.{create, created, destroy, killed, renewed, is_free, alive, worn}
 use Rattle.k_model.specs.State.{waits_for_absent}
 use Rattle.k_model.proofs.Maps.{upd_cases}
 use Rattle.k_points.specs.Shown.{Line, Tells}
@@ -47,7 +49,10 @@ module _ (k : KernelState) (me : ThreadId) (serial : ℕ) (to : ThreadId) (messa
   send_own e = rw e refl
 
   pub send_absent : same_id me to ≡ false → is_present k to ≡ false →
-      send k me serial to message soon joined after ≡ (answered k me serial (reply.Absent (found_of k to.number)), outcome.Absent (found_of k to.number))
+      send k me serial to message soon joined after ≡ (
+        answered k me serial (reply.Absent (found_of k to.number)),
+        outcome.Absent (found_of k to.number),
+      )
   unfolding send
   send_absent e p = rw (e, p) refl
 
@@ -58,7 +63,10 @@ module _ (k : KernelState) (me : ThreadId) (serial : ℕ) (to : ThreadId) (messa
 
   pub send_busy : same_id me to ≡ false → is_present k to ≡ true → takes_from (k.place to.number).status me soon ≡ false →
       soon ≡ true →
-      send k me serial to message soon joined after ≡ (answered k me serial (reply.Busy (found_of k to.number)), outcome.Busy (found_of k to.number))
+      send k me serial to message soon joined after ≡ (
+        answered k me serial (reply.Busy (found_of k to.number)),
+        outcome.Busy (found_of k to.number),
+      )
   unfolding send
   send_busy e p r z = rw (e, p, r, z) refl
 
@@ -93,7 +101,10 @@ module _ (k : KernelState) (me : ThreadId) (serial : ℕ) (from : Option ThreadI
 
 module _ (k : KernelState) (me : ThreadId) (serial : ℕ) where
   pub create_makes : (n : ℕ) → lowest (λ i. is_free (k.place i)) k.size ≡ Some n →
-      create k me serial ≡ (answered (renewed k n) me serial (reply.Made (id_of (renewed k n) n)), outcome.Made (id_of (renewed k n) n))
+      create k me serial ≡ (
+        answered (renewed k n) me serial (reply.Made (id_of (renewed k n) n)),
+        outcome.Made (id_of (renewed k n) n),
+      )
   unfolding create created
   create_makes n e = rw e refl
 
@@ -119,12 +130,14 @@ module _ (k : KernelState) (me : ThreadId) (serial : ℕ) where
 -- a phase is made from the state in which the caller has taken its serial
 module _ (k : KernelState) (me : ThreadId) (serial : ℕ) where
   pub send_is : (to : ThreadId) (message : Message) (zero joined : Bool) →
-      acted k me serial (act.Call (phase.Send to message zero joined)) ≡ send (called k me serial) me serial to message zero joined (status_after joined to)
+      acted k me serial (act.Call (phase.Send to message zero joined)) ≡
+      send (called k me serial) me serial to message zero joined (status_after joined to)
   unfolding acted made
   send_is to message zero joined = refl
 
   pub reply_is : (to : ThreadId) (message : Message) (zero : Bool) →
-      acted k me serial (act.Call (phase.Reply to message zero)) ≡ send (called k me serial) me serial to message zero false status.Picking
+      acted k me serial (act.Call (phase.Reply to message zero)) ≡
+      send (called k me serial) me serial to message zero false status.Picking
   unfolding acted made
   reply_is to message zero = refl
 
@@ -156,10 +169,14 @@ module _ (k : KernelState) (me : ThreadId) (serial : ℕ) where
 
 -- what a call leaves of the lists
 pub waiting_now : (k : KernelState) (me : ThreadId) (serial n : ℕ) → ((called k me serial).place n).waiting ≡ (k.place n).waiting
-waiting_now k me serial n = upd_cases (λ p. p.waiting ≡ (k.place n).waiting) k.place me.number (record (k.place me.number) { serial = serial }) n (λ e. ap (λ (m : ℕ). (k.place m).waiting) (sym e)) (λ _. refl)
+waiting_now k me serial n =
+    upd_cases (λ p. p.waiting ≡ (k.place n).waiting) k.place me.number (record (k.place me.number) { serial = serial }) n
+    (λ e. ap (λ (m : ℕ). (k.place m).waiting) (sym e)) (λ _. refl)
 
 pub waiting_run : (k : KernelState) (m n : ℕ) → ((with_status k m status.Run).place n).waiting ≡ (k.place n).waiting
-waiting_run k m n = upd_cases (λ p. p.waiting ≡ (k.place n).waiting) k.place m (record (k.place m) { status = status.Run; joined = false }) n (λ e. ap (λ (j : ℕ). (k.place j).waiting) (sym e)) (λ _. refl)
+waiting_run k m n =
+    upd_cases (λ p. p.waiting ≡ (k.place n).waiting) k.place m (record (k.place m) { status = status.Run; joined = false }) n
+    (λ e. ap (λ (j : ℕ). (k.place j).waiting) (sym e)) (λ _. refl)
 
 pub may_gone : (k : KernelState) (f : ℕ → Line) (who : ThreadId) (serial : ℕ) → Tells k f → (f who.number).version ≡ who.version →
     is_dead (f who.number).status ≡ false → waits_for_absent k (f who.number).status ≡ true → serial ≡ (f who.number).serial →

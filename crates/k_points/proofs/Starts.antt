@@ -1,5 +1,6 @@
 -- The board on which the kernel begins shows the opening state; and what a thread is given is its reply.
-use Rattle.std.proofs.Common.{◌≡◌, ℕ, ◌≤◌, Bool, true, false, not, refl, sym, ap, ◌∙◌, subst, List, [], length, Option, Some, None, arith}
+use Rattle.std.proofs.Common.{◌≡◌, ℕ, ◌≤◌, Bool, true, false, not, refl, sym, ap, ◌∙◌}
+use Rattle.std.proofs.Common.{subst, List, [], length, Option, Some, None, arith}
 use Rattle.std.specs.Prelude.{nat_lt, slice_index_or}
 use Rattle.std.proofs.lemmas.Bool.Decides.{nat_tests}
 use Rattle.std.proofs.lemmas.List.{get_or_past}
@@ -94,5 +95,8 @@ pub given_is : (g : Programs) (b : Board) (k : KernelState) (i : ℕ) (r : Reply
     ((k.place i).serial ≡ (b.context i).serial) × (reply_to k.replies (id_of k i) (b.context i).serial ≡ Some r)
 given_is g b k i r ok sh at =
     let h = subst (λ (a : At). AllSay g b i (b.context i) (facts_of a)) at (ok i) in
-    let serial : (k.place i).serial ≡ (b.context i).serial = ap (λ (l : Line). l.serial) (sh.lines i) ∙ sym h.0 in
-    (serial, ap (λ (s : ℕ). reply_to k.replies (id_of k i) s) (sym serial) ∙ ap (λ (l : Line). l.told) (sh.lines i) ∙ walked_reply g _ _ _ _ r h.1.1.0.1 refl)
+    let serial : (k.place i).serial ≡ (b.context i).serial = ap (λ (l : Line). l.serial) (sh.lines i) ∙ sym h.0 in (
+      serial,
+      ap (λ (s : ℕ). reply_to k.replies (id_of k i) s) (sym serial) ∙ ap (λ (l : Line). l.told) (sh.lines i)
+          ∙ walked_reply g _ _ _ _ r h.1.1.0.1 refl,
+    )

@@ -1,5 +1,6 @@
 -- Who counts as running although its word is open.
-use Rattle.std.proofs.Common.{◌≡◌, ℕ, Bool, true, false, refl, sym, ap, ◌∙◌, subst, List, ◌∷◌, Option, Some, None, arith, inl, inr, ◌&&◌}
+use Rattle.std.proofs.Common.{◌≡◌, ℕ, Bool, true, false, refl, sym, ap, ◌∙◌, subst}
+use Rattle.std.proofs.Common.{List, ◌∷◌, Option, Some, None, arith, inl, inr, ◌&&◌}
 use Rattle.std.proofs.lemmas.Bool.Decides.{eqb_tells}
 use Rattle.std.proofs.lemmas.Bool.{ne_eqb}
 use Rattle.k_ids.specs.declared.threads.ThreadId.{ThreadId}
@@ -65,10 +66,16 @@ some_same a c q = cc
 
 excepts_open : (g : Programs) (b : Board) (j : ℕ) (x : Context) (a : At) → AllSay g b j x (facts_of a) → (n : ℕ) →
     excepts a ≡ Some n → is_open (b.seen n).word.state ≡ true
-excepts_open g b j x (InSend c (Locked (WakeReceiver w))) h n q = subst (λ (m : ℕ). is_open (b.seen m).word.state ≡ true) (some_same _ n q) (passing_of g b j x c.manner c.caller c _ h).1
-excepts_open g b j x (InSend c (Locked ReloadReceiver)) h n q = subst (λ (m : ℕ). is_open (b.seen m).word.state ≡ true) (some_same _ n q) (passing_of g b j x c.manner c.caller c _ h).1
-excepts_open g b j x (InReceive c (receive.Locked (locked.CommitGone from))) h n q = subst (λ (m : ℕ). is_open (b.seen m).word.state ≡ true) (sym h.0.0 ∙ some_same _ n q) (let own = h.1.1.1.0 in ap (λ (u : StateWord). is_open u.state) own.1 ∙ ap is_open own.2 ∙ own.4)
-excepts_open g b j x (InReceive c (receive.Locked (locked.EndPick e w))) h n q = subst (λ (m : ℕ). is_open (b.seen m).word.state ≡ true) (sym h.1.0.0 ∙ some_same _ n q) (let own = h.1.1.1.1.0 in ap (λ (u : StateWord). is_open u.state) own.1 ∙ ap is_open own.2 ∙ own.4)
+excepts_open g b j x (InSend c (Locked (WakeReceiver w))) h n q =
+    subst (λ (m : ℕ). is_open (b.seen m).word.state ≡ true) (some_same _ n q) (passing_of g b j x c.manner c.caller c _ h).1
+excepts_open g b j x (InSend c (Locked ReloadReceiver)) h n q =
+    subst (λ (m : ℕ). is_open (b.seen m).word.state ≡ true) (some_same _ n q) (passing_of g b j x c.manner c.caller c _ h).1
+excepts_open g b j x (InReceive c (receive.Locked (locked.CommitGone from))) h n q =
+    subst (λ (m : ℕ). is_open (b.seen m).word.state ≡ true) (sym h.0.0 ∙ some_same _ n q)
+    (let own = h.1.1.1.0 in ap (λ (u : StateWord). is_open u.state) own.1 ∙ ap is_open own.2 ∙ own.4)
+excepts_open g b j x (InReceive c (receive.Locked (locked.EndPick e w))) h n q =
+    subst (λ (m : ℕ). is_open (b.seen m).word.state ≡ true) (sym h.1.0.0 ∙ some_same _ n q)
+    (let own = h.1.1.1.1.0 in ap (λ (u : StateWord). is_open u.state) own.1 ∙ ap is_open own.2 ∙ own.4)
 excepts_open g b j x a h n q = absurd cc
 
 pub unexcepted : (g : Programs) (b : Board) → PlacesHold g b → (n : ℕ) → is_open (b.seen n).word.state ≡ false →
@@ -77,7 +84,8 @@ unexcepted g b ok n closed = go (b.owner n)
   where
     of : (j : ℕ) (o : Option ℕ) → excepts (b.context j).at ≡ o → is_number o n ≡ false
     of j None e = refl
-    of j (Some m) e = ne_eqb m n (λ q. let o = excepts_open g b j (b.context j) (b.context j).at (ok j) m e in absurd (grind arith))
+    of j (Some m) e =
+        ne_eqb m n (λ q. let o = excepts_open g b j (b.context j) (b.context j).at (ok j) m e in absurd (grind arith))
 
     go : (o : Option ℕ) → excepted_by o b.context n ≡ false
     go None = refl
@@ -90,7 +98,9 @@ pub excepted_same : (o : Option ℕ) (contexts : ℕ → Context) (i : ℕ) (x :
 excepted_same None contexts i x n h = refl
 excepted_same (Some j) contexts i x n h =
     elim (eqb_tells j i) [
-      | inl e ↦ ap (λ (y : Context). is_number (excepts y.at) n) (ap (λ (m : ℕ). upd contexts i x m) e.1 ∙ upd_same contexts i x) ∙ h ∙ ap (λ (m : ℕ). is_number (excepts (contexts m).at) n) (sym e.1)
+      | inl e ↦
+          ap (λ (y : Context). is_number (excepts y.at) n) (ap (λ (m : ℕ). upd contexts i x m) e.1 ∙ upd_same contexts i x) ∙ h
+          ∙ ap (λ (m : ℕ). is_number (excepts (contexts m).at) n) (sym e.1)
       | inr e ↦ ap (λ (y : Context). is_number (excepts y.at) n) (upd_other contexts i x j e.1)
     ]
 

@@ -39,9 +39,14 @@ moves g b b' k (Some p) size sh d =
     record {
       new = d.new;
       shown = record {
-        shows = record { size = ap (λ (r : KernelState × Outcome). r.0.size) (sym m.1) ∙ size-acted k p.who _ p.act ∙ sh.shows.size ∙ sym size; lines = d.lines };
+        shows = record {
+          size = ap (λ (r : KernelState × Outcome). r.0.size) (sym m.1) ∙ size-acted k p.who _ p.act ∙ sh.shows.size ∙ sym size;
+          lines = d.lines;
+        };
         sound = subst IsSound (ap (λ (r : KernelState × Outcome). r.0) m.1) (acted-sound k p.who _ p.act m.0 sh.sound);
-        answered = subst IsAnswered (ap (λ (r : KernelState × Outcome). r.0) m.1) (acted-answered k p.who _ p.act m.0 sh.sound sh.answered);
+        answered =
+            subst IsAnswered (ap (λ (r : KernelState × Outcome). r.0) m.1)
+            (acted-answered k p.who _ p.act m.0 sh.sound sh.answered);
       };
       history = (d.step, d.plays);
     }

@@ -14,7 +14,8 @@ use Rattle.k_board.specs.Boards.{At, Board, InReceive, InSend, hand_of, id_at}
 use Rattle.k_board.specs.Facts.{AllSay}
 use Rattle.k_board.specs.Places.{PlacesHold, facts_of}
 use Rattle.k_board.specs.Steps.{Answers, receive_board, send_board}
-use Rattle.k_board.specs.Turns.{Turn, excepts, sends, receives, creates, destroys, goes_alone, begins, turns_to_work, wakes, switches, begins_switch, ends_switch}
+use Rattle.k_board.specs.Turns.{Turn, excepts, sends, receives, creates, destroys, goes_alone}
+use Rattle.k_board.specs.Turns.{begins, turns_to_work, wakes, switches, begins_switch, ends_switch}
 use Rattle.k_board.proofs.Goes.{receive_me, send_me}
 use Rattle.k_good.specs.Good.{IsGood}
 use Rattle.k_points.specs.Points.{Goes, Lists, Moves, turn_point}
@@ -35,14 +36,18 @@ module _ (g : Programs) (b : Board) (k : KernelState) (ok : PlacesHold g b) (sh 
       Answers b (send.ask_of c (b.context i).own p) r →
       Goes g b k (send.points c (b.seen i).word (hand_of b (b.queue c.to.number)) p r) (send_board g b i (b.context i) c p r)
   send_turn i c p r at a =
-      subst (λ (n : ℕ). (b.context n).at ≡ InSend c p → Answers b (send.ask_of c (b.context n).own p) r → Goes g b k (send.points c (b.seen n).word (hand_of b (b.queue c.to.number)) p r) (send_board g b n (b.context n) c p r)) (send_me g b i (b.context i) c p (facts_at i (InSend c p) at))
+      subst (λ (n : ℕ). (b.context n).at ≡ InSend c p → Answers b (send.ask_of c (b.context n).own p) r →
+      Goes g b k (send.points c (b.seen n).word (hand_of b (b.queue c.to.number)) p r) (send_board g b n (b.context n) c p r))
+      (send_me g b i (b.context i) c p (facts_at i (InSend c p) at))
       (λ here a. send_points g b k ok sh an c p r here a (facts_at c.caller.number (InSend c p) here)) at a
 
   receive_turn : (i : ℕ) (c : ReceiveCall) (p : ReceiveAt) (r : Response) → Lists b k i → (b.context i).at ≡ InReceive c p →
       Answers b (receive.ask_of c (b.context i).own p) r →
       Goes g b k (receive.points c (b.seen i).word (hand_of b (b.queue i)) p r) (receive_board g b i (b.context i) c p r)
   receive_turn i c p r li at a =
-      subst (λ (n : ℕ). Lists b k n → (b.context n).at ≡ InReceive c p → Answers b (receive.ask_of c (b.context n).own p) r → Goes g b k (receive.points c (b.seen n).word (hand_of b (b.queue n)) p r) (receive_board g b n (b.context n) c p r)) (receive_me g b i (b.context i) c p (facts_at i (InReceive c p) at))
+      subst (λ (n : ℕ). Lists b k n → (b.context n).at ≡ InReceive c p → Answers b (receive.ask_of c (b.context n).own p) r →
+      Goes g b k (receive.points c (b.seen n).word (hand_of b (b.queue n)) p r) (receive_board g b n (b.context n) c p r))
+      (receive_me g b i (b.context i) c p (facts_at i (InReceive c p) at))
       (λ li here a. receive_points g b k ok sh an c li p r here a (facts_at c.caller.number (InReceive c p) here)) li at a
 
 -- no turn changes the size

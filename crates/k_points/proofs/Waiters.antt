@@ -1,5 +1,6 @@
 -- What a receive's section finds in its queue is what the specification finds in the list.
-use Rattle.std.proofs.Common.{◌≡◌, ℕ, Bool, true, false, cond, refl, sym, ap, ◌∙◌, Option, Some, None, List, [], ◌∷◌, ◌++◌, length, map, get_or, position}
+use Rattle.std.proofs.Common.{◌≡◌, ℕ, Bool, true, false, cond, refl, sym, ap, ◌∙◌, Option}
+use Rattle.std.proofs.Common.{Some, None, List, [], ◌∷◌, ◌++◌, length, map, get_or, position}
 use Rattle.std.specs.Prelude.{if◌then◌else◌, ◌==◌}
 use Rattle.std.specs.List.{AllByRecursion, filter}
 use Rattle.std.proofs.Math.Seq.{get_or-append_seam}
@@ -66,15 +67,28 @@ module _ (c : ReceiveCall) (s : ℕ → Seen) where
           (admits c.from (sender_of f) ≡ true → waits f ≡ false) → Split e (waiting_in es) →
           Split e (map waiting_of (cond v (f ∷ filter waits es) (filter waits es)))
       skips false a p q n r = r
-      skips true false p q n r = record { passed = waiting_of f ∷ r.passed; others = r.others; list = ap (λ (ws : List Waiting). waiting_of f ∷ ws) r.list; unwanted_ = (q, r.unwanted_) }
+      skips true false p q n r = record {
+        passed = waiting_of f ∷ r.passed;
+        others = r.others;
+        list = ap (λ (ws : List Waiting). waiting_of f ∷ ws) r.list;
+        unwanted_ = (q, r.unwanted_);
+      }
       skips true true p q n r = absurd (let no = n q in cc)
 
       heads : f ≡ e → Split e (waiting_in (f ∷ es))
-      heads q = record { passed = []; others = waiting_in es; list = ap (λ (d : Bool). map waiting_of (cond d (f ∷ filter waits es) (filter waits es))) (ap waits q ∙ w) ∙ ap (λ (g : SenderEntry). waiting_of g ∷ waiting_in es) q; unwanted_ = tt }
+      heads q = record {
+        passed = [];
+        others = waiting_in es;
+        list =
+            ap (λ (d : Bool). map waiting_of (cond d (f ∷ filter waits es) (filter waits es))) (ap waits q ∙ w)
+            ∙ ap (λ (g : SenderEntry). waiting_of g ∷ waiting_in es) q;
+        unwanted_ = tt;
+      }
 
       go : (a : Bool) → (number_of f == number_of e) ≡ a → (if a then Some f else entry_of (number_of e) es) ≡ Some e →
           NoneWaits c s (if a then [] else f ∷ before (number_of e) es) →
-          (entry_of (number_of e) es ≡ Some e → waits e ≡ true → NoneWaits c s (before (number_of e) es) → Split e (waiting_in es)) →
+          (entry_of (number_of e) es ≡ Some e → waits e ≡ true → NoneWaits c s (before (number_of e) es) →
+          Split e (waiting_in es)) →
           Split e (waiting_in (f ∷ es))
       go true t so sh rest = heads (same_entry f e so)
       go false t so sh rest = skips (waits f) (admits c.from (sender_of f)) refl refl sh.0 (rest so w sh.1)
@@ -86,12 +100,14 @@ module _ (b : Board) (k : KernelState) (c : ReceiveCall) (v : c.caller.version �
   list_is : (k.place c.caller.number).waiting ≡ waiting_in c b.seen (b.queue c.caller.number)
   list_is =
       list
-      ∙ ap (λ (id : ThreadId). map waiting_of (filter (λ e. waits_for id e (b.seen (number_of e)).word) (b.queue c.caller.number))) (λ d. record c.caller { version = sym v d })
+      ∙ ap (λ (id : ThreadId). map waiting_of (filter (λ e. waits_for id e (b.seen (number_of e)).word)
+      (b.queue c.caller.number))) (λ d. record c.caller { version = sym v d })
 
   pub none_found : NoneWaits c b.seen (b.queue c.caller.number) → match_at k c.caller c.from ≡ None
   none_found h =
       ap (λ (ws : List Waiting). position (λ w. admits c.from w.0) ws) list_is
-      ∙ absent_found (λ (w : Waiting). admits c.from w.0) (waiting_in c b.seen (b.queue c.caller.number)) (unwanted c b.seen (b.queue c.caller.number) h)
+      ∙ absent_found (λ (w : Waiting). admits c.from w.0) (waiting_in c b.seen (b.queue c.caller.number))
+      (unwanted c b.seen (b.queue c.caller.number) h)
 
   pub first_found : (e : SenderEntry) → entry_of (number_of e) (b.queue c.caller.number) ≡ Some e →
       admits c.from (sender_of e) ≡ true → still_waits c e (b.seen (number_of e)).word ≡ true →

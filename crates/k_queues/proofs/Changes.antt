@@ -68,7 +68,9 @@ module _ (b b' : Board) (i : ℕ) (h : QueuesHold b) (says : (n : ℕ) → TaskS
     begun_reason : (t n : ℕ) (e : SenderEntry) → Reason b t n e → Reason b' t n e
     begun_reason t n e (by_wait w) =
         let p = waits_parts (id_at b t) e (b.seen n).word w in
-        by_wait (waits_is (id_at b' t) e (b'.seen n).word (begun_version n (by_i n) ∙ p.0) (subst (λ (id : ThreadId). sends_to id (b'.seen n).word.state ≡ true) (sym (begun_id t)) (begun_sends n (id_at b t) p.1 (by_i n))))
+        by_wait (waits_is (id_at b' t) e (b'.seen n).word (begun_version n (by_i n) ∙ p.0)
+        (subst (λ (id : ThreadId). sends_to id (b'.seen n).word.state ≡ true) (sym (begun_id t))
+        (begun_sends n (id_at b t) p.1 (by_i n))))
     begun_reason t n e (by_take k) = by_take (elim (by_i t) [
       | inl d ↦ absurd (idle_takes (sym was ∙ ap (task_of b) (sym d) ∙ k))
       | inr d ↦ others t d ∙ k
@@ -78,35 +80,53 @@ module _ (b b' : Board) (i : ℕ) (h : QueuesHold b) (says : (n : ℕ) → TaskS
 
     begun_there : (r : ThreadId) → (is_present_in (b.seen r.number).word r ≡ true) ⊎ Somewhere b (λ (k : Task). IsEmptied k r) →
         (is_present_in (b'.seen r.number).word r ≡ true) ⊎ Somewhere b' (λ (k : Task). IsEmptied k r)
-    begun_there r (inl y) = inl (present_stays (b.seen r.number).word (b'.seen r.number).word r (begun_version r.number (by_i r.number)) (begun_dead r.number (by_i r.number)) y)
+    begun_there r (inl y) =
+        inl (present_stays (b.seen r.number).word (b'.seen r.number).word r (begun_version r.number (by_i r.number))
+        (begun_dead r.number (by_i r.number)) y)
     begun_there r (inr y) = inr (begun_stays (λ (u : Task). IsEmptied u r) (λ v. v) y)
 
     begun_queued : (n : ℕ) (r : ThreadId) → sends_to r (b'.seen n).word.state ≡ true → (n ≡ i) ⊎ (n ≢ i) → IsQueued b' n r
     begun_queued n r y (inl d) =
         let same : to ≡ r = same_is to r (sym (sends r) ∙ subst (λ (m : ℕ). sends_to r (b'.seen m).word.state ≡ true) d y) in
-        record { entry = inl (ap (task_of b') d ∙ now ∙ ap Comes same); there = begun_there r (inl (subst (λ (id : ThreadId). is_present_in (b.seen id.number).word id ≡ true) same present)) }
+        record {
+          entry = inl (ap (task_of b') d ∙ now ∙ ap Comes same);
+          there = begun_there r (inl (subst
+              (λ (id : ThreadId). is_present_in (b.seen id.number).word id ≡ true) same present));
+        }
     begun_queued n r y (inr d) =
         let q = h.waiting n r (sym ((words n d).sends r) ∙ y) in
         record {
-          entry = elim q.entry [ inl k ↦ inl (others n d ∙ k) | inr k ↦ inr (has_entry_stays b b' n r (words n d).version (queue r.number) k) ];
+          entry =
+              elim q.entry [
+                | inl k ↦ inl (others n d ∙ k)
+                | inr k ↦ inr
+                    (has_entry_stays b b' n r (words n d).version (queue r.number) k)
+              ];
           there = begun_there r q.there;
         }
 
     begun_coming : (n : ℕ) (r : ThreadId) → task_of b' n ≡ Comes r → is_dead (b'.seen n).word ≡ true → (n ≡ i) ⊎ (n ≢ i) →
         Somewhere b' (λ (k : Task). IsToVisit k (id_at b' n) r.number)
     begun_coming n r k d (inl e) = absurd (true_false (subst (λ (m : ℕ). is_dead (b'.seen m).word ≡ true) e d) still)
-    begun_coming n r k d (inr e) = subst (λ (id : ThreadId). Somewhere b' (λ (u : Task). IsToVisit u id r.number)) (sym (begun_id n)) (begun_stays (λ (u : Task). IsToVisit u (id_at b n) r.number) (λ v. v) (h.coming n r (sym (others n e) ∙ k) (sym (words n e).dead ∙ d)))
+    begun_coming n r k d (inr e) =
+        subst (λ (id : ThreadId). Somewhere b' (λ (u : Task). IsToVisit u id r.number)) (sym (begun_id n))
+        (begun_stays (λ (u : Task). IsToVisit u (id_at b n) r.number) (λ v. v)
+        (h.coming n r (sym (others n e) ∙ k) (sym (words n e).dead ∙ d)))
 
     begun_freed : (j t n : ℕ) → IsFreed (task_of b' j) t n → (j ≡ i) ⊎ (j ≢ i) → (n ≡ i) ⊎ (n ≢ i) →
         sends_to (id_at b' t) (b'.seen n).word.state ≡ false
     begun_freed j t n k (inl e) m = absurd (subst (λ (u : Task). IsFreed u t n) (ap (task_of b') e ∙ now) k)
-    begun_freed j t n k (inr e) (inr m) = subst (λ (id : ThreadId). sends_to id (b'.seen n).word.state ≡ false) (sym (begun_id t)) ((words n m).sends (id_at b t) ∙ h.freed j t n (subst (λ (u : Task). IsFreed u t n) (others j e) k))
+    begun_freed j t n k (inr e) (inr m) =
+        subst (λ (id : ThreadId). sends_to id (b'.seen n).word.state ≡ false) (sym (begun_id t))
+        ((words n m).sends (id_at b t) ∙ h.freed j t n (subst (λ (u : Task). IsFreed u t n) (others j e) k))
     begun_freed j t n k (inr e) (inl m) = elim (cases_Bool (sends_to (id_at b' t) (b'.seen n).word.state)) [
       | inr y ↦ y
       | inl y ↦
-          let same : to ≡ id_at b' t = same_is to (id_at b' t) (sym (sends (id_at b' t)) ∙ subst (λ (u : ℕ). sends_to (id_at b' t) (b'.seen u).word.state ≡ true) m y) in
+          let same : to ≡ id_at b' t = same_is to (id_at b' t)
+          (sym (sends (id_at b' t)) ∙ subst (λ (u : ℕ). sends_to (id_at b' t) (b'.seen u).word.state ≡ true) m y) in
           let gone = (freed_destroying b j t n (task_of b j) (says j) (subst (λ (u : Task). IsFreed u t n) (others j e) k)).1 in
-          absurd (not_there (b.seen t).word (subst (λ (u : ℕ). is_present_in (b.seen u).word to ≡ true) (ap (λ (id : ThreadId). id.number) same) present) gone)
+          absurd (not_there (b.seen t).word (subst (λ (u : ℕ). is_present_in (b.seen u).word to ≡ true)
+          (ap (λ (id : ThreadId). id.number) same) present) gone)
     ]
       where
         not_there : (w : StateWord) → is_present_in w to ≡ true → is_dead w ≡ true → ⊥
@@ -136,7 +156,9 @@ module _ (b b' : Board) (i : ℕ) (h : QueuesHold b) (says : (n : ℕ) → TaskS
     -- nobody waits for the number's thread of before
     not_for : (n : ℕ) (to : ThreadId) → sends_to to (b.seen n).word.state ≡ true → to.number ≢ m
     not_for n to y d = elim (h.waiting n to y).there [
-      | inl p ↦ true_false (and_parts (eqb (b.seen to.number).word.version to.version) (not (is_dead (b.seen to.number).word)) p).1 (ap not (subst (λ (u : ℕ). is_dead (b.seen u).word ≡ true) (sym d) dead))
+      | inl p ↦
+          true_false (and_parts (eqb (b.seen to.number).word.version to.version) (not (is_dead (b.seen to.number).word)) p).1
+          (ap not (subst (λ (u : ℕ). is_dead (b.seen u).word ≡ true) (sym d) dead))
       | inr s ↦ subst (λ (u : Task). IsEmptied u to) was (emptied_mine b says i table to s)
     ]
 
@@ -150,7 +172,9 @@ module _ (b b' : Board) (i : ℕ) (h : QueuesHold b) (says : (n : ℕ) → TaskS
     made_reason t n e (by_wait w) =
         let p = waits_parts (id_at b t) e (b.seen n).word w in
         let k = words n (was_other n (id_at b t) p.1) in
-        by_wait (waits_is (id_at b' t) e (b'.seen n).word (k.version ∙ p.0) (subst (λ (id : ThreadId). sends_to id (b'.seen n).word.state ≡ true) (sym (id_stays b b' t (words t (not_for n (id_at b t) p.1)).version)) (k.sends (id_at b t) ∙ p.1)))
+        by_wait (waits_is (id_at b' t) e (b'.seen n).word (k.version ∙ p.0)
+        (subst (λ (id : ThreadId). sends_to id (b'.seen n).word.state ≡ true)
+        (sym (id_stays b b' t (words t (not_for n (id_at b t) p.1)).version)) (k.sends (id_at b t) ∙ p.1)))
     made_reason t n e (by_take k) = by_take (same t ∙ k)
     made_reason t n e (by_free k) = by_free (made_stays (λ (u : Task). IsFreed u t n) k)
     made_reason t n e (by_kill k) = by_kill (made_stays (λ (u : Task). IsToVisit u (sender_of e) t) k)
@@ -163,13 +187,20 @@ module _ (b b' : Board) (i : ℕ) (h : QueuesHold b) (says : (n : ℕ) → TaskS
         let o = words r.number (not_for n r z) in
         record {
           entry = elim q.entry [ inl k ↦ inl (same n ∙ k) | inr f ↦ inr (has_entry_stays b b' n r k.version (queue r.number) f) ];
-          there = elim q.there [ inl p ↦ inl (present_stays (b.seen r.number).word (b'.seen r.number).word r o.version o.dead p) | inr s ↦ inr (made_stays (λ (u : Task). IsEmptied u r) s) ];
+          there =
+              elim q.there [
+                | inl p ↦ inl (present_stays (b.seen r.number).word (b'.seen r.number).word r o.version o.dead p)
+                | inr s ↦ inr (made_stays (λ (u : Task). IsEmptied u r) s)
+              ];
         }
 
     made_coming : (n : ℕ) (r : ThreadId) → task_of b' n ≡ Comes r → is_dead (b'.seen n).word ≡ true → (n ≡ m) ⊎ (n ≢ m) →
         Somewhere b' (λ (k : Task). IsToVisit k (id_at b' n) r.number)
     made_coming n r k d (inl e) = absurd (true_false (subst (λ (u : ℕ). is_dead (b'.seen u).word ≡ true) e d) lives)
-    made_coming n r k d (inr e) = subst (λ (id : ThreadId). Somewhere b' (λ (u : Task). IsToVisit u id r.number)) (sym (id_stays b b' n (words n e).version)) (made_stays (λ (u : Task). IsToVisit u (id_at b n) r.number) (h.coming n r (sym (same n) ∙ k) (sym (words n e).dead ∙ d)))
+    made_coming n r k d (inr e) =
+        subst (λ (id : ThreadId). Somewhere b' (λ (u : Task). IsToVisit u id r.number))
+        (sym (id_stays b b' n (words n e).version)) (made_stays (λ (u : Task). IsToVisit u (id_at b n) r.number)
+        (h.coming n r (sym (same n) ∙ k) (sym (words n e).dead ∙ d)))
 
     pub make_keeps : QueuesHold b'
     make_keeps = record {
@@ -179,7 +210,9 @@ module _ (b b' : Board) (i : ℕ) (h : QueuesHold b) (says : (n : ℕ) → TaskS
       reasons = λ t n e q. made_reason t n e (h.reasons t n e (was_entry t n e q));
       waiting = made_queued;
       coming = λ n r k d. made_coming n r k d (by_m n);
-      freed = λ j t n k. absurd (subst (λ (u : Task). IsFreed u t n) was (freed_mine b says i table t n record { number = j; has = subst (λ (u : Task). IsFreed u t n) (same j) k }));
+      freed =
+          λ j t n k. absurd (subst (λ (u : Task). IsFreed u t n) was
+          (freed_mine b says i table t n record { number = j; has = subst (λ (u : Task). IsFreed u t n) (same j) k }));
     }
 
   -- a thread is destroyed
@@ -219,12 +252,21 @@ module _ (b b' : Board) (i : ℕ) (h : QueuesHold b) (says : (n : ℕ) → TaskS
         let p = waits_parts (id_at b t) e (b.seen n).word w in
         let sent = h.senders t n e q in
         let number : number_of e ≡ c.who.number = of_number n (b.queue t) e q ∙ d in
-        let sender : c.who ≡ sender_of e = sym is ∙ (λ z. record { number = sym number z; version = (ap (λ (m : ℕ). (b.seen m).word.version) (sym d) ∙ p.0) z }) in
-        by_kill record { number = i; has = subst (λ (id : ThreadId). IsToVisit (task_of b' i) id t) sender (visits t (λ z. sent.apart (number ∙ sym z)) sent.inside) }
+        let sender : c.who ≡ sender_of e = sym is ∙ (λ z. record {
+          number = sym number z;
+          version = (ap (λ (m : ℕ). (b.seen m).word.version) (sym d) ∙ p.0) z;
+        }) in
+        by_kill record {
+          number = i;
+          has = subst (λ (id : ThreadId). IsToVisit (task_of b' i) id t) sender
+              (visits t (λ z. sent.apart (number ∙ sym z)) sent.inside);
+        }
     killed_wait t n e q w (inr d) =
         let p = waits_parts (id_at b t) e (b.seen n).word w in
         let k = words n d in
-        by_wait (waits_is (id_at b' t) e (b'.seen n).word (k.version ∙ p.0) (subst (λ (id : ThreadId). sends_to id (b'.seen n).word.state ≡ true) (sym (killed_id t)) (k.sends (id_at b t) ∙ p.1)))
+        by_wait (waits_is (id_at b' t) e (b'.seen n).word (k.version ∙ p.0)
+        (subst (λ (id : ThreadId). sends_to id (b'.seen n).word.state ≡ true) (sym (killed_id t))
+        (k.sends (id_at b t) ∙ p.1)))
 
     killed_reason : (t n : ℕ) (e : SenderEntry) → entry_of n (b.queue t) ≡ Some e → Reason b t n e → Reason b' t n e
     killed_reason t n e q (by_wait w) = killed_wait t n e q w (by_v n)
@@ -236,26 +278,40 @@ module _ (b b' : Board) (i : ℕ) (h : QueuesHold b) (says : (n : ℕ) → TaskS
     killed_reason t n e q (by_kill k) = absurd (no_visit t (sender_of e) k)
 
     killed_other : (n : ℕ) (to : ThreadId) → sends_to to (b'.seen n).word.state ≡ true → n ≢ c.who.number
-    killed_other n to y d = dead_silent to (b'.seen c.who.number).word dead (subst (λ (u : ℕ). sends_to to (b'.seen u).word.state ≡ true) d y)
+    killed_other n to y d =
+        dead_silent to (b'.seen c.who.number).word dead (subst (λ (u : ℕ). sends_to to (b'.seen u).word.state ≡ true) d y)
 
     killed_there : (n : ℕ) (r : ThreadId) → (task_of b n ≡ Comes r) ⊎ HasEntry b n r →
         (is_present_in (b.seen r.number).word r ≡ true) ⊎ Somewhere b (λ (k : Task). IsEmptied k r) →
         (r.number ≡ c.who.number) ⊎ (r.number ≢ c.who.number) →
         (is_present_in (b'.seen r.number).word r ≡ true) ⊎ Somewhere b' (λ (k : Task). IsEmptied k r)
     killed_there n r q (inr s) d = absurd (subst (λ (u : Task). IsEmptied u r) was (emptied_mine b says i table r s))
-    killed_there n r q (inl p) (inr d) = inl (present_stays (b.seen r.number).word (b'.seen r.number).word r (words r.number d).version (words r.number d).dead p)
+    killed_there n r q (inl p) (inr d) =
+        inl (present_stays (b.seen r.number).word (b'.seen r.number).word r (words r.number d).version (words r.number d).dead p)
     killed_there n r (inl k) (inl p) (inl d) = absurd ((comes_apart n r k).1 d)
     killed_there n r (inr f) (inl p) (inl d) =
-        let version_r = eqb-true (b.seen r.number).word.version r.version (and_parts (eqb (b.seen r.number).word.version r.version) (not (is_dead (b.seen r.number).word)) p).0 in
-        let same : c.who ≡ r = sym is ∙ (λ z. record { number = sym d z; version = (ap (λ (m : ℕ). (b.seen m).word.version) (sym d) ∙ version_r) z }) in
-        inr record { number = i; has = subst (λ (id : ThreadId). IsEmptied (task_of b' i) id) same (empties n f.entry (subst (λ (m : ℕ). entry_of n (b.queue m) ≡ Some f.entry) d f.stands)) }
+        let version_r = eqb-true (b.seen r.number).word.version r.version
+        (and_parts (eqb (b.seen r.number).word.version r.version) (not (is_dead (b.seen r.number).word)) p).0 in
+        let same : c.who ≡ r = sym is ∙ (λ z. record {
+          number = sym d z;
+          version = (ap (λ (m : ℕ). (b.seen m).word.version) (sym d) ∙ version_r) z;
+        }) in
+        inr record {
+          number = i;
+          has = subst (λ (id : ThreadId). IsEmptied (task_of b' i) id) same
+              (empties n f.entry (subst (λ (m : ℕ). entry_of n (b.queue m) ≡ Some f.entry) d f.stands));
+        }
 
     killed_queued : (n : ℕ) (r : ThreadId) → sends_to r (b'.seen n).word.state ≡ true → IsQueued b' n r
     killed_queued n r y =
         let k = words n (killed_other n r y) in
         let q = h.waiting n r (sym (k.sends r) ∙ y) in
         record {
-          entry = elim q.entry [ inl u ↦ inl (others n (comes_apart n r u).0 ∙ u) | inr f ↦ inr (has_entry_stays b b' n r k.version (queue r.number) f) ];
+          entry =
+              elim q.entry [
+                | inl u ↦ inl (others n (comes_apart n r u).0 ∙ u)
+                | inr f ↦ inr (has_entry_stays b b' n r k.version (queue r.number) f)
+              ];
           there = killed_there n r q.entry q.there (by_v r.number);
         }
 
@@ -263,7 +319,11 @@ module _ (b b' : Board) (i : ℕ) (h : QueuesHold b) (says : (n : ℕ) → TaskS
         (n ≡ c.who.number) ⊎ (n ≢ c.who.number) → Somewhere b' (λ (k : Task). IsToVisit k (id_at b' n) r.number)
     killed_coming n r k d (inl e) =
         let s = subst (TaskSays b n) k (says n) in
-        record { number = i; has = subst (λ (id : ThreadId). IsToVisit (task_of b' i) id r.number) (sym is ∙ ap (id_at b) (sym e) ∙ sym (killed_id n)) (visits r.number (comes_apart n r k).1 s.range.number) }
+        record {
+          number = i;
+          has = subst (λ (id : ThreadId). IsToVisit (task_of b' i) id r.number)
+              (sym is ∙ ap (id_at b) (sym e) ∙ sym (killed_id n)) (visits r.number (comes_apart n r k).1 s.range.number);
+        }
     killed_coming n r k d (inr e) = absurd (no_visit r.number (id_at b n) (h.coming n r k (sym (words n e).dead ∙ d)))
 
     pub kill_keeps : QueuesHold b'
@@ -273,7 +333,11 @@ module _ (b b' : Board) (i : ℕ) (h : QueuesHold b) (says : (n : ℕ) → TaskS
       senders = now_senders;
       reasons = λ t n e q. let w = was_entry t n e q in killed_reason t n e w (h.reasons t n e w);
       waiting = killed_queued;
-      coming = λ n r k d. elim (by_i n) [ inl z ↦ absurd (comes r (ap (task_of b') (sym z) ∙ k)) | inr z ↦ killed_coming n r (sym (others n z) ∙ k) d (by_v n) ];
+      coming =
+          λ n r k d. elim (by_i n) [
+            | inl z ↦ absurd (comes r (ap (task_of b') (sym z) ∙ k))
+            | inr z ↦ killed_coming n r (sym (others n z) ∙ k) d (by_v n)
+          ];
       freed = λ j t n k. elim (by_i j) [
         | inl z ↦ absurd (frees t n (subst (λ (m : ℕ). IsFreed (task_of b' m) t n) z k))
         | inr z ↦ absurd (no_freed t n record { number = j; has = subst (λ (u : Task). IsFreed u t n) (others j z) k })

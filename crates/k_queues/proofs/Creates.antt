@@ -10,7 +10,8 @@ use Rattle.k_locks.specs.Numbers.{lowest_free}
 use Rattle.k_locks.specs.Shown.{is_dead}
 use Rattle.k_threads.specs.declared.create.CreateCall.{CreateCall}
 use Rattle.k_threads.specs.declared.create.CreateOutside.TheVariants.{AcquireTable, Ended}
-use Rattle.k_threads.specs.declared.create.CreateLocked.TheVariants.{LoadCaller, PlaceContext, CommitCreate, AcquireReady, Release}
+use Rattle.k_threads.specs.declared.create.CreateLocked.TheVariants.{LoadCaller, PlaceContext}
+use Rattle.k_threads.specs.declared.create.CreateLocked.TheVariants.{CommitCreate, AcquireReady, Release}
 use Rattle.k_threads.specs.CreateTable.{CreateAt, Outside, Locked, PushCreated, full_point}
 use Rattle.k_threads.specs.CreateTable as create
 use Rattle.k_threads.specs.Words.{created_word, dead_word}
@@ -24,7 +25,8 @@ use Rattle.k_board.specs.Steps.{Answers, create_at, create_board, create_context
 use Rattle.k_queues.specs.Tasks.{Idle, task_at, task_of}
 use Rattle.k_queues.proofs.StepKinds.{IsPlain, Move, OthersStay, makes, stays}
 use Rattle.k_queues.proofs.Moves.{idle_comes}
-use Rattle.k_queues.proofs.Words.{IsQuietAsk, after_idle, lost_won, both_mine, both_sides, plain_if, plain_none, sides, task_mine, unwritten_word, words_quiet, written_word}
+use Rattle.k_queues.proofs.Words.{IsQuietAsk, after_idle, lost_won, both_mine, both_sides, plain_if}
+use Rattle.k_queues.proofs.Words.{plain_none, sides, task_mine, unwritten_word, words_quiet, written_word}
 
 -- a create has nothing to do in queues
 create_idle : (c : CreateCall) (p : CreateAt) → task_at (create_at c p) ≡ Idle
@@ -67,7 +69,8 @@ module _ (g : Programs) (b : Board) (i : ℕ) (c : CreateCall) where
         (r ≡ asks.Won → IsQuietAsk (create.ask_of c (b.context i).own p)) → (m : ℕ) (y : Context) →
         ((n : ℕ) → B.context n ≡ upd (upd b.context m y) i (moved p r) n) → task_at y.at ≡ Idle → task_of b m ≡ Idle →
         IsPlain (point_at p r) → Kept p r
-    both an q m y two now was pl = quiet an q (both_sides b B i (moved p r) m y two now was) (both_mine b B i (moved p r) m y two ∙ idle) pl
+    both an q m y two now was pl =
+        quiet an q (both_sides b B i (moved p r) m y two now was) (both_mine b B i (moved p r) m y two ∙ idle) pl
 
   makes_now : (id : ThreadId) → (b.context i).at ≡ InCreate c (Locked (CommitCreate id)) →
       AllSay g b i (b.context i) (facts_create c (Locked (CommitCreate id))) → Kept (Locked (CommitCreate id)) asks.Won
@@ -75,7 +78,8 @@ module _ (g : Programs) (b : Board) (i : ℕ) (c : CreateCall) where
       makes id.number
       (both_sides b b' i x id.number y (λ n. refl) refl (ap (λ (z : Context). task_at z.at) f.1.1.1.1.1.1.1.0.1))
       (ap task_at at) (both_mine b b' i x id.number y (λ n. refl)) f.0 (λ t. refl)
-      (λ n ne. unwritten_word g b (b.context i).position point id.number (dead_word (id.version - 1)) (created_word id.version c.priority) n ne)
+      (λ n ne. unwritten_word g b (b.context i).position point id.number (dead_word (id.version - 1))
+      (created_word id.version c.priority) n ne)
       (ap is_dead f.1.1.1.1.1.1.0.1) (ap is_dead new) (λ r. ap (λ (w : StateWord). sends_to r w.state) new) (λ k. refl)
     where
       b' : Board
@@ -91,7 +95,9 @@ module _ (g : Programs) (b : Board) (i : ℕ) (c : CreateCall) where
       point = point_at (Locked (CommitCreate id)) asks.Won
 
       new : (b'.seen id.number).word ≡ created_word id.version c.priority
-      new = written_word g b (b.context i).position point id.number (dead_word (id.version - 1)) (created_word id.version c.priority)
+      new =
+          written_word g b (b.context i).position point id.number (dead_word (id.version - 1))
+          (created_word id.version c.priority)
 
   full_plain : (o : Option ℕ) → IsPlain (full_point c b.numbers o)
   full_plain (Some n) f = refl
@@ -99,15 +105,26 @@ module _ (g : Programs) (b : Board) (i : ℕ) (c : CreateCall) where
 
   pub create_moves : (p : CreateAt) (r : Response) → (b.context i).at ≡ InCreate c p →
       Answers b (create.ask_of c (b.context i).own p) r → AllSay g b i (b.context i) (facts_create c p) → Kept p r
-  create_moves (Outside AcquireTable) asks.Got at an f = alone (Outside AcquireTable) asks.Got at an (λ z. tt) (λ n. refl) plain_none
-  create_moves (Outside AcquireTable) (asks.Owned o) at an f = alone (Outside AcquireTable) (asks.Owned o) at an (λ z. tt) (λ n. refl) plain_none
-  create_moves (Locked LoadCaller) (asks.Word w) at an f = alone (Locked LoadCaller) (asks.Word w) at an (λ z. tt) (λ n. refl) (plain_if (is_dead w) None _ plain_none (full_plain (lowest_free b.numbers)))
-  create_moves (Locked (PlaceContext id)) asks.Placed at an f = both (Locked (PlaceContext id)) asks.Placed at an (λ z. tt) id.number (new_context g c id Coming) (λ n. refl) refl (ap task_at f.1.1.1.1.1.1.1.0.1) plain_none
+  create_moves (Outside AcquireTable) asks.Got at an f =
+      alone (Outside AcquireTable) asks.Got at an (λ z. tt) (λ n. refl) plain_none
+  create_moves (Outside AcquireTable) (asks.Owned o) at an f =
+      alone (Outside AcquireTable) (asks.Owned o) at an (λ z. tt) (λ n. refl) plain_none
+  create_moves (Locked LoadCaller) (asks.Word w) at an f =
+      alone (Locked LoadCaller) (asks.Word w) at an (λ z. tt) (λ n. refl)
+      (plain_if (is_dead w) None _ plain_none (full_plain (lowest_free b.numbers)))
+  create_moves (Locked (PlaceContext id)) asks.Placed at an f =
+      both (Locked (PlaceContext id)) asks.Placed at an (λ z. tt) id.number (new_context g c id Coming) (λ n. refl) refl
+      (ap task_at f.1.1.1.1.1.1.1.0.1) plain_none
   create_moves (Locked (CommitCreate id)) asks.Won at an f = makes_now id at f
-  create_moves (Locked (CommitCreate id)) (asks.Lost v) at an f = alone (Locked (CommitCreate id)) (asks.Lost v) at an (λ z. absurd (lost_won z)) (λ n. refl) plain_none
-  create_moves (Locked (AcquireReady id)) asks.Got at an f = alone (Locked (AcquireReady id)) asks.Got at an (λ z. tt) (λ n. refl) plain_none
-  create_moves (Locked (AcquireReady id)) (asks.Owned o) at an f = alone (Locked (AcquireReady id)) (asks.Owned o) at an (λ z. tt) (λ n. refl) plain_none
-  create_moves (PushCreated id) asks.Released at an f = alone (PushCreated id) asks.Released at an (λ z. tt) (λ n. refl) plain_none
-  create_moves (Locked (Release q)) asks.Released at an f = alone (Locked (Release q)) asks.Released at an (λ z. tt) (λ n. refl) plain_none
+  create_moves (Locked (CommitCreate id)) (asks.Lost v) at an f =
+      alone (Locked (CommitCreate id)) (asks.Lost v) at an (λ z. absurd (lost_won z)) (λ n. refl) plain_none
+  create_moves (Locked (AcquireReady id)) asks.Got at an f =
+      alone (Locked (AcquireReady id)) asks.Got at an (λ z. tt) (λ n. refl) plain_none
+  create_moves (Locked (AcquireReady id)) (asks.Owned o) at an f =
+      alone (Locked (AcquireReady id)) (asks.Owned o) at an (λ z. tt) (λ n. refl) plain_none
+  create_moves (PushCreated id) asks.Released at an f =
+      alone (PushCreated id) asks.Released at an (λ z. tt) (λ n. refl) plain_none
+  create_moves (Locked (Release q)) asks.Released at an f =
+      alone (Locked (Release q)) asks.Released at an (λ z. tt) (λ n. refl) plain_none
   create_moves (Outside (Ended w)) r at an f = absurd f.0
   create_moves p r at an f = absurd an

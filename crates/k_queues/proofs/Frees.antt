@@ -69,7 +69,8 @@ module _ (b b' : Board) (i : ℕ) (h : QueuesHold b) (says : (n : ℕ) → TaskS
     freed_waits : (t n : ℕ) (e : SenderEntry) → sends_to (id_at b t) (b.seen n).word.state ≡ true → (n ≡ sender) ⊎ (n ≢ sender) →
         (sends_to (id_at b t) (b'.seen n).word.state ≡ true) ⊎ Reason b' t n e
     freed_waits t n e y (inl d) =
-        let it = ap (λ (id : ThreadId). id.number) (sends_once (id_at b t) c.who (b.seen sender).word.state (subst (λ (m : ℕ). sends_to (id_at b t) (b.seen m).word.state ≡ true) d y) waited) in
+        let it = ap (λ (id : ThreadId). id.number) (sends_once (id_at b t) c.who (b.seen sender).word.state
+        (subst (λ (m : ℕ). sends_to (id_at b t) (b.seen m).word.state ≡ true) d y) waited) in
         inr (by_free record { number = i; has = subst (λ (k : Task). IsFreed k t n) (sym now) (sym it, sym d) })
     freed_waits t n e y (inr d) = inl ((words n d).sends (id_at b t) ∙ y)
 
@@ -86,13 +87,19 @@ module _ (b b' : Board) (i : ℕ) (h : QueuesHold b) (says : (n : ℕ) → TaskS
       waits = λ t n e q y. freed_waits t n e y (by_s n);
       taken = λ n e q k. absurd (empties_takes (sym was ∙ k));
       freed = λ t n e q k. absurd (subst (λ (u : Task). IsFreed u t n) was k);
-      killed = λ t n e q k. subst (λ (u : Task). IsToVisit u (sender_of e) t) (sym now) (subst (λ (u : Task). IsToVisit u (sender_of e) t) was k);
+      killed =
+          λ t n e q k. subst (λ (u : Task). IsToVisit u (sender_of e) t) (sym now)
+          (subst (λ (u : Task). IsToVisit u (sender_of e) t) was k);
       stands = λ n r y k. has_entry_stays b b' n r (freed_version n (by_s n)) (queue r.number) k;
       comes = λ r k. absurd (empties_comes (sym was ∙ k));
       emptied = λ n r y f k. subst (λ (u : Task). IsEmptied u r) (sym now) (subst (λ (u : Task). IsEmptied u r) was k);
       new_comes = λ r k. absurd (empties_comes (sym now ∙ k));
-      visits = λ n r ne k v. subst (λ (u : Task). IsToVisit u (id_at b n) r.number) (sym now) (subst (λ (u : Task). IsToVisit u (id_at b n) r.number) was v);
-      new_freed = λ t n k. let z = subst (λ (u : Task). IsFreed u t n) now k in subst (λ (m : ℕ). sends_to (id_at b t) (b'.seen m).word.state ≡ false) z.1 (none (id_at b t));
+      visits =
+          λ n r ne k v. subst (λ (u : Task). IsToVisit u (id_at b n) r.number) (sym now)
+          (subst (λ (u : Task). IsToVisit u (id_at b n) r.number) was v);
+      new_freed =
+          λ t n k. let z = subst (λ (u : Task). IsFreed u t n) now k in
+          subst (λ (m : ℕ). sends_to (id_at b t) (b'.seen m).word.state ≡ false) z.1 (none (id_at b t));
     }
 
   -- the first entry leaves the victim's queue
@@ -113,16 +120,22 @@ module _ (b b' : Board) (i : ℕ) (h : QueuesHold b) (says : (n : ℕ) → TaskS
     by_s' n = elim (eqb_tells n sender) [ inl e ↦ inl e.1 | inr e ↦ inr e.1 ]
 
     left_once : (t : ℕ) → (t ≡ c.who.number) ⊎ (t ≢ c.who.number) → IsOnceEach (b'.queue t)
-    left_once t (inl d) = subst (λ (n : ℕ). IsOnceEach (b'.queue n)) (sym d) (subst IsOnceEach (sym here) (once_without number_of sender (b.queue c.who.number) (h.once c.who.number)))
+    left_once t (inl d) =
+        subst (λ (n : ℕ). IsOnceEach (b'.queue n)) (sym d) (subst IsOnceEach (sym here)
+        (once_without number_of sender (b.queue c.who.number) (h.once c.who.number)))
     left_once t (inr d) = subst IsOnceEach (sym (but t d)) (h.once t)
 
     left_here : (n : ℕ) (e : SenderEntry) → entry_of n (b'.queue c.who.number) ≡ Some e →
         (entry_of n (b.queue c.who.number) ≡ Some e) × (n ≢ sender)
-    left_here n e q = left_entry n sender (b.queue c.who.number) e (h.once c.who.number) (ap (λ (es : List SenderEntry). entry_of n es) (sym here) ∙ q)
+    left_here n e q =
+        left_entry n sender (b.queue c.who.number) e (h.once c.who.number)
+        (ap (λ (es : List SenderEntry). entry_of n es) (sym here) ∙ q)
 
     left_was : (t n : ℕ) (e : SenderEntry) → entry_of n (b'.queue t) ≡ Some e → (t ≡ c.who.number) ⊎ (t ≢ c.who.number) →
         entry_of n (b.queue t) ≡ Some e
-    left_was t n e q (inl d) = subst (λ (m : ℕ). entry_of n (b.queue m) ≡ Some e) (sym d) (left_here n e (subst (λ (m : ℕ). entry_of n (b'.queue m) ≡ Some e) d q)).0
+    left_was t n e q (inl d) =
+        subst (λ (m : ℕ). entry_of n (b.queue m) ≡ Some e) (sym d)
+        (left_here n e (subst (λ (m : ℕ). entry_of n (b'.queue m) ≡ Some e) d q)).0
     left_was t n e q (inr d) = ap (λ (es : List SenderEntry). entry_of n es) (sym (but t d)) ∙ q
 
     by_who : (r : ThreadId) → sends_to r (b'.seen sender).word.state ≡ true → r ≢ c.who
@@ -140,14 +153,20 @@ module _ (b b' : Board) (i : ℕ) (h : QueuesHold b) (says : (n : ℕ) → TaskS
         (t ≡ c.who.number) ⊎ (t ≢ c.who.number) → sends_to (id_at b t) (b'.seen n).word.state ≡ true
     left_waits t n e q y (inr d) v = (words n d).sends (id_at b t) ∙ y
     left_waits t n e q y (inl d) (inl v) = absurd ((left_here n e (subst (λ (m : ℕ). entry_of n (b'.queue m) ≡ Some e) v q)).1 d)
-    left_waits t n e q y (inl d) (inr v) = subst (λ (m : ℕ). sends_to (id_at b t) (b'.seen m).word.state ≡ true) (sym d) (same (id_at b t) (λ z. v (ap (λ (id : ThreadId). id.number) z)) ∙ subst (λ (m : ℕ). sends_to (id_at b t) (b.seen m).word.state ≡ true) d y)
+    left_waits t n e q y (inl d) (inr v) =
+        subst (λ (m : ℕ). sends_to (id_at b t) (b'.seen m).word.state ≡ true) (sym d)
+        (same (id_at b t) (λ z. v (ap (λ (id : ThreadId). id.number) z))
+        ∙ subst (λ (m : ℕ). sends_to (id_at b t) (b.seen m).word.state ≡ true) d y)
 
     left_stands : (n : ℕ) (r : ThreadId) → sends_to r (b'.seen n).word.state ≡ true → HasEntry b n r →
         (r.number ≡ c.who.number) ⊎ (r.number ≢ c.who.number) → HasEntry b' n r
     left_stands n r y k (inr d) = has_entry_stays b b' n r (version n) (but r.number d) k
     left_stands n r y k (inl d) = record {
       entry = k.entry;
-      stands = ap (λ (m : ℕ). entry_of n (b'.queue m)) d ∙ ap (λ (es : List SenderEntry). entry_of n es) here ∙ stays_entry n sender (b.queue c.who.number) k.entry (h.once c.who.number) (subst (λ (m : ℕ). entry_of n (b.queue m) ≡ Some k.entry) d k.stands) apart;
+      stands =
+          ap (λ (m : ℕ). entry_of n (b'.queue m)) d ∙ ap (λ (es : List SenderEntry). entry_of n es) here
+          ∙ stays_entry n sender (b.queue c.who.number) k.entry (h.once c.who.number)
+          (subst (λ (m : ℕ). entry_of n (b.queue m) ≡ Some k.entry) d k.stands) apart;
       sender = k.sender ∙ sym (id_stays b b' n (version n));
     }
       where
@@ -162,7 +181,9 @@ module _ (b b' : Board) (i : ℕ) (h : QueuesHold b) (says : (n : ℕ) → TaskS
       | inl d ↦ comes r (ap (task_of b') (sym d.1) ∙ k)
       | inr d ↦ not_coming n r c.who.number owner d.1 (sym (others n d.1) ∙ k) (ap (λ (id : ThreadId). id.number) (sym e))
     ])
-    left_emptied n r (inr f) e = subst (IsEmptied (task_of b' i)) e (empties n f.entry (subst (λ (id : ThreadId). entry_of n (b'.queue id.number) ≡ Some f.entry) (sym e) f.stands))
+    left_emptied n r (inr f) e =
+        subst (IsEmptied (task_of b' i)) e (empties n f.entry
+        (subst (λ (id : ThreadId). entry_of n (b'.queue id.number) ≡ Some f.entry) (sym e) f.stands))
 
     left_freed : (t n : ℕ) (e : SenderEntry) → entry_of n (b'.queue t) ≡ Some e → IsFreed (Empties c o) t n → ⊥
     left_freed t n e q k =
@@ -198,14 +219,18 @@ module _ (b b' : Board) (i : ℕ) (h : QueuesHold b) (says : (n : ℕ) → TaskS
       (owner : b.owner m ≡ Some i) (gone : is_dead (b.seen c.who.number).word ≡ true)
       (words : (n : ℕ) → SameWait (b.seen n).word (b'.seen n).word) (but : (t : ℕ) → t ≢ m → b'.queue t ≡ b.queue t)
       (once : IsOnceEach (b'.queue m))
-      (left : (n : ℕ) (e : SenderEntry) → entry_of n (b'.queue m) ≡ Some e → (entry_of n (b.queue m) ≡ Some e) × (sender_of e ≢ c.who))
-      (keep : (n : ℕ) (e : SenderEntry) → entry_of n (b.queue m) ≡ Some e → sender_of e ≢ c.who → entry_of n (b'.queue m) ≡ Some e) where
+      (left : (n : ℕ) (e : SenderEntry) → entry_of n (b'.queue m) ≡ Some e →
+      (entry_of n (b.queue m) ≡ Some e) × (sender_of e ≢ c.who))
+      (keep : (n : ℕ) (e : SenderEntry) → entry_of n (b.queue m) ≡ Some e → sender_of e ≢ c.who →
+      entry_of n (b'.queue m) ≡ Some e) where
     by_m : (t : ℕ) → (t ≡ m) ⊎ (t ≢ m)
     by_m t = elim (eqb_tells t m) [ inl e ↦ inl e.1 | inr e ↦ inr e.1 ]
 
     seen_was : (t n : ℕ) (e : SenderEntry) → entry_of n (b'.queue t) ≡ Some e → (t ≡ m) ⊎ (t ≢ m) →
         entry_of n (b.queue t) ≡ Some e
-    seen_was t n e q (inl d) = subst (λ (k : ℕ). entry_of n (b.queue k) ≡ Some e) (sym d) (left n e (subst (λ (k : ℕ). entry_of n (b'.queue k) ≡ Some e) d q)).0
+    seen_was t n e q (inl d) =
+        subst (λ (k : ℕ). entry_of n (b.queue k) ≡ Some e) (sym d)
+        (left n e (subst (λ (k : ℕ). entry_of n (b'.queue k) ≡ Some e) d q)).0
     seen_was t n e q (inr d) = ap (λ (es : List SenderEntry). entry_of n es) (sym (but t d)) ∙ q
 
     seen_killed : (t n : ℕ) (e : SenderEntry) → entry_of n (b'.queue t) ≡ Some e → IsAhead c m (sender_of e) t →
@@ -218,12 +243,16 @@ module _ (b b' : Board) (i : ℕ) (h : QueuesHold b) (says : (n : ℕ) → TaskS
     seen_stands n r y k (inr d) = has_entry_stays b b' n r (words n).version (but r.number d) k
     seen_stands n r y k (inl d) = record {
       entry = k.entry;
-      stands = ap (λ (u : ℕ). entry_of n (b'.queue u)) d ∙ keep n k.entry (subst (λ (u : ℕ). entry_of n (b.queue u) ≡ Some k.entry) d k.stands) apart;
+      stands =
+          ap (λ (u : ℕ). entry_of n (b'.queue u)) d ∙ keep n k.entry
+          (subst (λ (u : ℕ). entry_of n (b.queue u) ≡ Some k.entry) d k.stands) apart;
       sender = k.sender ∙ sym (id_stays b b' n (words n).version);
     }
       where
         apart : sender_of k.entry ≢ c.who
-        apart z = dead_silent r (b.seen c.who.number).word gone (subst (λ (u : ℕ). sends_to r (b.seen u).word.state ≡ true) (ap (λ (id : ThreadId). id.number) (sym k.sender ∙ z)) (sym ((words n).sends r) ∙ y))
+        apart z =
+            dead_silent r (b.seen c.who.number).word gone (subst (λ (u : ℕ). sends_to r (b.seen u).word.state ≡ true)
+            (ap (λ (id : ThreadId). id.number) (sym k.sender ∙ z)) (sym ((words n).sends r) ∙ y))
 
     pub visit_step : QueueStep b b' i
     visit_step = record {
@@ -232,7 +261,11 @@ module _ (b b' : Board) (i : ℕ) (h : QueuesHold b) (says : (n : ℕ) → TaskS
       dead = λ n. (words n).dead;
       back = λ n r y. sym ((words n).sends r) ∙ y;
       others = others;
-      once = λ t. elim (by_m t) [ inl d ↦ subst (λ (u : ℕ). IsOnceEach (b'.queue u)) (sym d) once | inr d ↦ subst IsOnceEach (sym (but t d)) (h.once t) ];
+      once =
+          λ t. elim (by_m t) [
+            | inl d ↦ subst (λ (u : ℕ). IsOnceEach (b'.queue u)) (sym d) once
+            | inr d ↦ subst IsOnceEach (sym (but t d)) (h.once t)
+          ];
       senders = λ t n e q. h.senders t n e (seen_was t n e q (by_m t));
       entries = λ t n e q. inl (seen_was t n e q (by_m t));
       waits = λ t n e q y. inl ((words n).sends (id_at b t) ∙ y);
@@ -243,7 +276,9 @@ module _ (b b' : Board) (i : ℕ) (h : QueuesHold b) (says : (n : ℕ) → TaskS
       comes = λ r k. absurd (visits_comes (sym was ∙ k));
       emptied = λ n r y f k. absurd (subst (λ (u : Task). IsEmptied u r) was k);
       new_comes = λ r k. absurd (comes r k);
-      visits = λ n r ne k v. visits (id_at b n) r.number (subst (λ (u : Task). IsToVisit u (id_at b n) r.number) was v) (not_coming n r m owner ne k);
+      visits =
+          λ n r ne k v. visits (id_at b n) r.number (subst (λ (u : Task). IsToVisit u (id_at b n) r.number) was v)
+          (not_coming n r m owner ne k);
       new_freed = λ t n k. absurd (frees t n k);
     }
 

@@ -23,7 +23,8 @@ use Rattle.k_caller.specs.Waits as alone
 use Rattle.k_board.specs.Words.{Programs}
 use Rattle.k_board.specs.Boards.{Board, hand_of, id_at}
 use Rattle.k_board.specs.Steps.{destroy_number}
-use Rattle.k_board.specs.Turns.{Turn, begins, begins_switch, creates, destroys, ends_switch, goes_alone, receives, sends, switches, turns_to_work, wakes}
+use Rattle.k_board.specs.Turns.{Turn, begins, begins_switch, creates, destroys, ends_switch}
+use Rattle.k_board.specs.Turns.{goes_alone, receives, sends, switches, turns_to_work, wakes}
 
 -- who begins to wait comes last
 abbrev pub queued : (ℕ → List SenderEntry) → ThreadId → ThreadId → Message → ℕ → List SenderEntry

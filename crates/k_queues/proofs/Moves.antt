@@ -16,7 +16,8 @@ use Rattle.k_board.specs.Boards.{Board, id_at}
 use Rattle.k_board.specs.Facts.{waits_for}
 use Rattle.k_queues.specs.Tasks.{Comes, Idle, IsEmptied, IsFreed, IsToVisit, Somewhere, TakesOut, Task, task_of}
 use Rattle.k_queues.specs.Queues.{HasEntry, IsQueued, IsSender, QueuesHold, Reason, by_kill, by_take, by_wait}
-use Rattle.k_queues.proofs.Entries.{last_entry, left_entry, more_entry, of_number, sends_once, some_is, stays_entry, still_entry, true_false}
+use Rattle.k_queues.proofs.Entries.{last_entry, left_entry, more_entry, of_number, sends_once}
+use Rattle.k_queues.proofs.Entries.{some_is, stays_entry, still_entry, true_false}
 use Rattle.k_queues.proofs.Quiet.{SameWait, has_entry_stays}
 use Rattle.k_queues.proofs.Steps.{QueueStep, id_stays, somewhere_stays, waits_is}
 use Rattle.k_queues.proofs.Tasks.{TaskSays, emptied_destroying}
@@ -25,8 +26,13 @@ use Rattle.k_queues.proofs.Tasks.{TaskSays, emptied_destroying}
 pub queued_is : (b : Board) → ((n : ℕ) → TaskSays b n (task_of b n)) → (n : ℕ) (to : ThreadId) → IsQueued b n to →
     id_at b to.number ≡ to
 queued_is b says n to q = elim q.there [
-  | inl y ↦ ap (λ (v : ℕ). record { number = to.number; version = v }) (eqb-true (b.seen to.number).word.version to.version (and_parts (eqb (b.seen to.number).word.version to.version) (not (is_dead (b.seen to.number).word)) y).0)
-  | inr s ↦ ap (λ (v : ℕ). record { number = to.number; version = v }) (emptied_destroying b s.number to (task_of b s.number) (says s.number) s.has).version
+  | inl y ↦
+      ap (λ (v : ℕ). record { number = to.number; version = v })
+      (eqb-true (b.seen to.number).word.version to.version (and_parts (eqb (b.seen to.number).word.version to.version)
+      (not (is_dead (b.seen to.number).word)) y).0)
+  | inr s ↦
+      ap (λ (v : ℕ). record { number = to.number; version = v })
+      (emptied_destroying b s.number to (task_of b s.number) (says s.number) s.has).version
 ]
 
 pub comes_is : {to r : ThreadId} → Comes to ≡ Comes r → to ≡ r
@@ -63,22 +69,35 @@ module _ (b b' : Board) (i : ℕ) (h : QueuesHold b) (says : (n : ℕ) → TaskS
     by_to t = elim (eqb_tells t to.number) [ inl e ↦ inl e.1 | inr e ↦ inr e.1 ]
 
     come_once : (t : ℕ) → (t ≡ to.number) ⊎ (t ≢ to.number) → IsOnceEach (b'.queue t)
-    come_once t (inl d) = subst (λ (n : ℕ). IsOnceEach (b'.queue n)) (sym d) (subst IsOnceEach (sym here) (once_append number_of (b.queue to.number) f (h.once to.number) come_fresh))
+    come_once t (inl d) =
+        subst (λ (n : ℕ). IsOnceEach (b'.queue n)) (sym d) (subst IsOnceEach (sym here)
+        (once_append number_of (b.queue to.number) f (h.once to.number) come_fresh))
     come_once t (inr d) = subst IsOnceEach (sym (but t d)) (h.once t)
 
     -- an entry of before, or the new one
     come_entry : (t n : ℕ) (e : SenderEntry) → entry_of n (b'.queue t) ≡ Some e → (t ≡ to.number) ⊎ (t ≢ to.number) →
         (entry_of n (b.queue t) ≡ Some e) ⊎ ((t ≡ to.number) × (n ≡ i) × (e ≡ f))
-    come_entry t n e q (inl d) = elim (more_entry n (b.queue to.number) e f come_fresh (ap (λ (es : List SenderEntry). entry_of n es) (sym here) ∙ subst (λ (m : ℕ). entry_of n (b'.queue m) ≡ Some e) d q)) [
-      | inl y ↦ inl (subst (λ (m : ℕ). entry_of n (b.queue m) ≡ Some e) (sym d) y)
-      | inr y ↦ inr (d, y.0 ∙ number, y.1)
-    ]
+    come_entry t n e q (inl d) =
+        elim (more_entry n (b.queue to.number) e f come_fresh
+        (ap (λ (es : List SenderEntry). entry_of n es) (sym here)
+        ∙ subst (λ (m : ℕ). entry_of n (b'.queue m) ≡ Some e) d q)) [
+          | inl y ↦ inl (subst (λ (m : ℕ). entry_of n (b.queue m) ≡ Some e) (sym d) y)
+          | inr y ↦ inr (d, y.0 ∙ number, y.1)
+        ]
     come_entry t n e q (inr d) = inl (ap (λ (es : List SenderEntry). entry_of n es) (sym (but t d)) ∙ q)
 
     come_reason : Reason b' to.number i f
     come_reason = elim lives [
-      | inl d ↦ by_kill (somewhere_stays b b' i others (λ (k : Task). IsToVisit k (sender_of f) to.number) (λ v. absurd (subst (λ (k : Task). IsToVisit k (sender_of f) to.number) was v)) (subst (λ (id : ThreadId). Somewhere b (λ (k : Task). IsToVisit k id to.number)) (sym sender) (h.coming i to was d)))
-      | inr y ↦ by_wait (waits_is (id_at b' to.number) f (b'.seen i).word ((words i).version ∙ ap (λ (id : ThreadId). id.version) (sym sender)) ((words i).sends (id_at b' to.number) ∙ subst (λ (id : ThreadId). sends_to id (b.seen i).word.state ≡ true) (sym (id_stays b b' to.number (words to.number).version ∙ queued_is b says i to (h.waiting i to y))) y))
+      | inl d ↦
+          by_kill (somewhere_stays b b' i others (λ (k : Task). IsToVisit k (sender_of f) to.number)
+          (λ v. absurd (subst (λ (k : Task). IsToVisit k (sender_of f) to.number) was v))
+          (subst (λ (id : ThreadId). Somewhere b (λ (k : Task). IsToVisit k id to.number)) (sym sender)
+          (h.coming i to was d)))
+      | inr y ↦
+          by_wait (waits_is (id_at b' to.number) f (b'.seen i).word
+          ((words i).version ∙ ap (λ (id : ThreadId). id.version) (sym sender))
+          ((words i).sends (id_at b' to.number) ∙ subst (λ (id : ThreadId). sends_to id (b.seen i).word.state ≡ true)
+          (sym (id_stays b b' to.number (words to.number).version ∙ queued_is b says i to (h.waiting i to y))) y))
     ]
 
     come_senders : (t n : ℕ) (e : SenderEntry) → entry_of n (b'.queue t) ≡ Some e → IsSender b.size t e
@@ -91,13 +110,18 @@ module _ (b b' : Board) (i : ℕ) (h : QueuesHold b) (says : (n : ℕ) → TaskS
         (entry_of n (b.queue t) ≡ Some e) ⊎ Reason b' t n e
     come_entries t n e q = elim (come_entry t n e q (by_to t)) [
       | inl y ↦ inl y
-      | inr y ↦ inr (subst (λ (m : ℕ). Reason b' m n e) (sym y.0) (subst (λ (m : ℕ). Reason b' to.number m e) (sym y.1) (subst (Reason b' to.number i) (sym y.2) come_reason)))
+      | inr y ↦
+          inr (subst (λ (m : ℕ). Reason b' m n e) (sym y.0) (subst (λ (m : ℕ). Reason b' to.number m e) (sym y.1)
+          (subst (Reason b' to.number i) (sym y.2) come_reason)))
     ]
 
     come_stands : (n : ℕ) (r : ThreadId) → HasEntry b n r → (r.number ≡ to.number) ⊎ (r.number ≢ to.number) → HasEntry b' n r
     come_stands n r e (inl d) = record {
       entry = e.entry;
-      stands = ap (λ (m : ℕ). entry_of n (b'.queue m)) d ∙ ap (λ (es : List SenderEntry). entry_of n es) here ∙ still_entry n (b.queue to.number) e.entry f come_fresh (subst (λ (m : ℕ). entry_of n (b.queue m) ≡ Some e.entry) d e.stands);
+      stands =
+          ap (λ (m : ℕ). entry_of n (b'.queue m)) d ∙ ap (λ (es : List SenderEntry). entry_of n es) here
+          ∙ still_entry n (b.queue to.number) e.entry f come_fresh
+          (subst (λ (m : ℕ). entry_of n (b.queue m) ≡ Some e.entry) d e.stands);
       sender = e.sender ∙ sym (id_stays b b' n (words n).version);
     }
     come_stands n r e (inr d) = has_entry_stays b b' n r (words n).version (but r.number d) e
@@ -105,7 +129,9 @@ module _ (b b' : Board) (i : ℕ) (h : QueuesHold b) (says : (n : ℕ) → TaskS
     come_has : HasEntry b' i to
     come_has = record {
       entry = f;
-      stands = ap (λ (es : List SenderEntry). entry_of i es) here ∙ subst (λ (n : ℕ). entry_of n (b.queue to.number ++ f ∷ []) ≡ Some f) number (last_entry (b.queue to.number) f come_fresh);
+      stands =
+          ap (λ (es : List SenderEntry). entry_of i es) here ∙ subst
+          (λ (n : ℕ). entry_of n (b.queue to.number ++ f ∷ []) ≡ Some f) number (last_entry (b.queue to.number) f come_fresh);
       sender = sender ∙ sym (id_stays b b' i (words i).version);
     }
 
@@ -162,8 +188,11 @@ module _ (b b' : Board) (i : ℕ) (h : QueuesHold b) (says : (n : ℕ) → TaskS
         sends_to (id_at b t) (b.seen n).word.state ≡ true → (n ≡ number_of e) ⊎ (n ≢ number_of e) →
         (sends_to (id_at b t) (b'.seen n).word.state ≡ true) ⊎ Reason b' t n f
     took_waits t n f q y (inl d) =
-        let it : t ≡ i = ap (λ (id : ThreadId). id.number) (sends_once (id_at b t) (id_at b i) (b.seen (number_of e)).word.state (subst (λ (m : ℕ). sends_to (id_at b t) (b.seen m).word.state ≡ true) d y) waited) in
-        let same : f ≡ e = some_is (sym (took_entry i (number_of e) f (subst (λ (m : ℕ). entry_of m (b'.queue i) ≡ Some f) d (subst (λ (m : ℕ). entry_of n (b'.queue m) ≡ Some f) it q))) ∙ stands_it) in
+        let it : t ≡ i = ap (λ (id : ThreadId). id.number) (sends_once (id_at b t) (id_at b i) (b.seen (number_of e)).word.state
+        (subst (λ (m : ℕ). sends_to (id_at b t) (b.seen m).word.state ≡ true) d y) waited) in
+        let same : f ≡ e = some_is (sym (took_entry i (number_of e) f
+        (subst (λ (m : ℕ). entry_of m (b'.queue i) ≡ Some f) d (subst (λ (m : ℕ). entry_of n (b'.queue m) ≡ Some f) it q)))
+        ∙ stands_it) in
         inr (by_take (ap (λ (m : ℕ). task_of b' m) it ∙ now ∙ ap TakesOut (sym same)))
     took_waits t n f q y (inr d) = inl ((words n d).sends (id_at b t) ∙ y)
 
@@ -198,16 +227,21 @@ module _ (b b' : Board) (i : ℕ) (h : QueuesHold b) (says : (n : ℕ) → TaskS
     by_me t = elim (eqb_tells t i) [ inl d ↦ inl d.1 | inr d ↦ inr d.1 ]
 
     out_once : (t : ℕ) → (t ≡ i) ⊎ (t ≢ i) → IsOnceEach (b'.queue t)
-    out_once t (inl d) = subst (λ (n : ℕ). IsOnceEach (b'.queue n)) (sym d) (subst IsOnceEach (sym here) (once_without number_of (number_of e) (b.queue i) (h.once i)))
+    out_once t (inl d) =
+        subst (λ (n : ℕ). IsOnceEach (b'.queue n)) (sym d) (subst IsOnceEach (sym here)
+        (once_without number_of (number_of e) (b.queue i) (h.once i)))
     out_once t (inr d) = subst IsOnceEach (sym (but t d)) (h.once t)
 
     out_left : (n : ℕ) (f : SenderEntry) → entry_of n (b'.queue i) ≡ Some f →
         (entry_of n (b.queue i) ≡ Some f) × (n ≢ number_of e)
-    out_left n f q = left_entry n (number_of e) (b.queue i) f (h.once i) (ap (λ (es : List SenderEntry). entry_of n es) (sym here) ∙ q)
+    out_left n f q =
+        left_entry n (number_of e) (b.queue i) f (h.once i) (ap (λ (es : List SenderEntry). entry_of n es) (sym here) ∙ q)
 
     out_entry : (t n : ℕ) (f : SenderEntry) → entry_of n (b'.queue t) ≡ Some f → (t ≡ i) ⊎ (t ≢ i) →
         entry_of n (b.queue t) ≡ Some f
-    out_entry t n f q (inl d) = subst (λ (m : ℕ). entry_of n (b.queue m) ≡ Some f) (sym d) (out_left n f (subst (λ (m : ℕ). entry_of n (b'.queue m) ≡ Some f) d q)).0
+    out_entry t n f q (inl d) =
+        subst (λ (m : ℕ). entry_of n (b.queue m) ≡ Some f) (sym d)
+        (out_left n f (subst (λ (m : ℕ). entry_of n (b'.queue m) ≡ Some f) d q)).0
     out_entry t n f q (inr d) = ap (λ (es : List SenderEntry). entry_of n es) (sym (but t d)) ∙ q
 
     out_taken : (n : ℕ) (f : SenderEntry) → entry_of n (b'.queue i) ≡ Some f → task_of b i ≡ TakesOut f → ⊥
@@ -220,7 +254,9 @@ module _ (b b' : Board) (i : ℕ) (h : QueuesHold b) (says : (n : ℕ) → TaskS
     out_stands n r y k (inr d) = has_entry_stays b b' n r (words n).version (but r.number d) k
     out_stands n r y k (inl d) = record {
       entry = k.entry;
-      stands = ap (λ (m : ℕ). entry_of n (b'.queue m)) d ∙ ap (λ (es : List SenderEntry). entry_of n es) here ∙ stays_entry n (number_of e) (b.queue i) k.entry (h.once i) stands_i apart;
+      stands =
+          ap (λ (m : ℕ). entry_of n (b'.queue m)) d ∙ ap (λ (es : List SenderEntry). entry_of n es) here
+          ∙ stays_entry n (number_of e) (b.queue i) k.entry (h.once i) stands_i apart;
       sender = k.sender ∙ sym (id_stays b b' n (words n).version);
     }
       where
@@ -236,8 +272,12 @@ module _ (b b' : Board) (i : ℕ) (h : QueuesHold b) (says : (n : ℕ) → TaskS
         apart : n ≢ number_of e
         apart z =
             let same : k.entry ≡ e = some_is (sym stands_i ∙ ap (λ (m : ℕ). entry_of m (b.queue i)) z ∙ stood) in
-            let version : (b.seen n).word.version ≡ (sender_of e).version = ap (λ (id : ThreadId). id.version) (sym k.sender) ∙ ap (λ (f : SenderEntry). (sender_of f).version) same in
-            true_false (waits_is (id_at b i) e (b.seen (number_of e)).word (subst (λ (m : ℕ). (b.seen m).word.version ≡ (sender_of e).version) z version) (subst (λ (id : ThreadId). sends_to id (b.seen (number_of e)).word.state ≡ true) (sym whom) (subst (λ (m : ℕ). sends_to r (b.seen m).word.state ≡ true) z sends))) gone
+            let version : (b.seen n).word.version ≡ (sender_of e).version =
+            ap (λ (id : ThreadId). id.version) (sym k.sender) ∙ ap (λ (f : SenderEntry). (sender_of f).version) same in
+            true_false (waits_is (id_at b i) e (b.seen (number_of e)).word
+            (subst (λ (m : ℕ). (b.seen m).word.version ≡ (sender_of e).version) z version)
+            (subst (λ (id : ThreadId). sends_to id (b.seen (number_of e)).word.state ≡ true) (sym whom)
+            (subst (λ (m : ℕ). sends_to r (b.seen m).word.state ≡ true) z sends))) gone
 
     pub out_step : QueueStep b b' i
     out_step = record {

@@ -37,7 +37,11 @@ proper_keeps g b b' i p names u t =
 pub proper_start : (g : Programs) (b : Board) → ((n : ℕ) → Booted g b n) → ((l : Lock) → owner_of b l ≡ None) →
     NumbersAgree b.seen b.numbers b.context → length b.numbers.versions ≡ b.size →
     ((n : ℕ) → is_dead (b.seen n).word ≡ false → n < b.size) → ((t : ℕ) → b.queue t ≡ []) → b.size ≤ 64 → IsProper g b
-proper_start g b h free agree count alive empty size = record { good = good_start g b h free agree; within = within_starts g b h count alive; queues = queues_start g b h empty size }
+proper_start g b h free agree count alive empty size = record {
+  good = good_start g b h free agree;
+  within = within_starts g b h count alive;
+  queues = queues_start g b h empty size;
+}
 
 module _ (g : Programs) (b : Board) (p : IsProper g b) (t : ℕ) (table : b.table ≡ None) (owner : b.owner t ≡ None) where
   says : (n : ℕ) → TaskSays b n (task_of b n)
@@ -52,8 +56,10 @@ module _ (g : Programs) (b : Board) (p : IsProper g b) (t : ℕ) (table : b.tabl
       let k = waits_parts (id_at b t) e (b.seen n).word w in
       (λ d. record { number = of_number n (b.queue t) e q d; version = sym k.0 d }, k.1)
   who_has n e q (by_take k) = absurd (none_some (sym owner ∙ subst (TaskSays b t) k (says t)))
-  who_has n e q (by_free k) = absurd (idle_table k.number (freed_destroying b k.number t n (task_of b k.number) (says k.number) k.has).0)
-  who_has n e q (by_kill k) = absurd (idle_table k.number (visits_destroying b k.number t (sender_of e) (task_of b k.number) (says k.number) k.has))
+  who_has n e q (by_free k) =
+      absurd (idle_table k.number (freed_destroying b k.number t n (task_of b k.number) (says k.number) k.has).0)
+  who_has n e q (by_kill k) =
+      absurd (idle_table k.number (visits_destroying b k.number t (sender_of e) (task_of b k.number) (says k.number) k.has))
 
   who_stands : (n : ℕ) (to : ThreadId) → to.number ≡ t → (task_of b n ≡ Comes to) ⊎ HasEntry b n to → HasEntry b n to
   who_stands n to e (inl k) = absurd (none_some (sym owner ∙ ap b.owner (sym e) ∙ (subst (TaskSays b n) k (says n)).owner))
@@ -63,7 +69,8 @@ module _ (g : Programs) (b : Board) (p : IsProper g b) (t : ℕ) (table : b.tabl
       (is_present_in (b.seen to.number).word to ≡ true) ⊎ Somewhere b (λ (k : Task). IsEmptied k to) →
       is_present_in (b.seen t).word to ≡ true
   who_is_there to e (inl y) = subst (λ (n : ℕ). is_present_in (b.seen n).word to ≡ true) e y
-  who_is_there to e (inr k) = absurd (idle_table k.number (emptied_destroying b k.number to (task_of b k.number) (says k.number) k.has).table)
+  who_is_there to e (inr k) =
+      absurd (idle_table k.number (emptied_destroying b k.number to (task_of b k.number) (says k.number) k.has).table)
 
   pub exact_queue : IsWhoWaits b t
   exact_queue = record {

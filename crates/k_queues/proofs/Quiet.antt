@@ -19,12 +19,20 @@ pub record SameWait (w u : StateWord) : Type 0 where
   pub sends : (to : ThreadId) → sends_to to u.state ≡ sends_to to w.state
 
 pub same_wait : (w u : StateWord) → u ≡ w → SameWait w u
-same_wait w u e = record { version = ap (λ (v : StateWord). v.version) e; dead = ap is_dead e; sends = λ to. ap (λ (v : StateWord). sends_to to v.state) e }
+same_wait w u e = record {
+  version = ap (λ (v : StateWord). v.version) e;
+  dead = ap is_dead e;
+  sends = λ to. ap (λ (v : StateWord). sends_to to v.state) e;
+}
 
 -- an entry in a queue that stays
 pub has_entry_stays : (b b' : Board) (n : ℕ) (to : ThreadId) → (b'.seen n).word.version ≡ (b.seen n).word.version →
     b'.queue to.number ≡ b.queue to.number → HasEntry b n to → HasEntry b' n to
-has_entry_stays b b' n to v q e = record { entry = e.entry; stands = ap (λ (es : List SenderEntry). entry_of n es) q ∙ e.stands; sender = e.sender ∙ sym (id_stays b b' n v) }
+has_entry_stays b b' n to v q e = record {
+  entry = e.entry;
+  stands = ap (λ (es : List SenderEntry). entry_of n es) q ∙ e.stands;
+  sender = e.sender ∙ sym (id_stays b b' n v);
+}
 
 module _ (b b' : Board) (i : ℕ) (h : QueuesHold b) (size : b'.size ≡ b.size) (queue : (t : ℕ) → b'.queue t ≡ b.queue t)
     (words : (n : ℕ) → SameWait (b.seen n).word (b'.seen n).word) (others : (n : ℕ) → n ≢ i → task_of b' n ≡ task_of b n) where

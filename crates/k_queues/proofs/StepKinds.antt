@@ -1,7 +1,8 @@
 -- The kinds of steps, as far as queues go: what each changes of queues, words and tasks, and what its point makes of who waits.
 -- Each
 -- location's step is of one kind. So what lasts over a kind is proved once.
-use Rattle.std.proofs.Common.{◌≡◌, ◌≢◌, ℕ, ◌<◌, true, false, sym, ap, ◌∙◌, subst, Option, Some, None, List, [], ◌∷◌, ◌++◌, ◌⊎◌, inl, inr, eqb}
+use Rattle.std.proofs.Common.{◌≡◌, ◌≢◌, ℕ, ◌<◌, true, false, sym, ap, ◌∙◌, subst, Option}
+use Rattle.std.proofs.Common.{Some, None, List, [], ◌∷◌, ◌++◌, ◌⊎◌, inl, inr, eqb}
 use Rattle.std.proofs.lemmas.Bool.Decides.{eqb_tells}
 use Rattle.k_ids.specs.declared.threads.ThreadId.{ThreadId}
 use Rattle.k_model.specs.Maps.{upd}
@@ -137,11 +138,14 @@ pub move_keeps : (b b' : Board) (i : ℕ) (p : Option Point) → b'.size ≡ b.s
 move_keeps b b' i p z h says (stays o mine none queue words pl) =
     step_keeps b b' i h (quiet_step b b' i h z queue words (others_tasks b b' i o) mine)
 move_keeps b b' i p z h says (begins c o was now queue words version alive still silent sends present owner fresh pl) =
-    begin_keeps b b' i h says z queue (others_tasks b b' i o) c.to was (ap task_at now) words version alive still silent sends present
+    begin_keeps b b' i h says z queue (others_tasks b b' i o) c.to was
+    (ap task_at now) words version alive still silent sends present
 move_keeps b b' i p z h says (comes c o was now words here but number sender fits fresh lives owner pl) =
-    step_keeps b b' i h (come_step b b' i h says z (others_tasks b b' i o) c.to (entry_for c.caller c.message) words (ap task_at was) now here but number sender fits fresh lives)
+    step_keeps b b' i h (come_step b b' i h says z (others_tasks b b' i o) c.to (entry_for c.caller c.message) words
+    (ap task_at was) now here but number sender fits fresh lives)
 move_keeps b b' i p z h says (takes e o was now owner queue stands_it waited age words version dead none pl) =
-    step_keeps b b' i h (take_step b b' i h says z (others_tasks b b' i o) e was now queue stands_it waited words version dead none)
+    step_keeps b b' i h (take_step b b' i h says z
+    (others_tasks b b' i o) e was now queue stands_it waited words version dead none)
 move_keeps b b' i p z h says (takes_out e o words was now here but stood gone pl) =
     step_keeps b b' i h (out_step b b' i h says z (others_tasks b b' i o) e words was now here but stood gone)
 move_keeps b b' i p z h says (makes m o was now table queue words dead lives silent pl) =
@@ -150,13 +154,21 @@ move_keeps b b' i p z h says (makes m o was now table queue words dead lives sil
     by_me : (n : ℕ) → ((eqb n i ≡ true) × (n ≡ i)) ⊎ ((eqb n i ≡ false) × (n ≢ i)) → task_of b' n ≡ task_of b n
     by_me n (inl d) = subst (λ (k : ℕ). task_of b' k ≡ task_of b k) (sym d.1) (now ∙ sym was)
     by_me n (inr d) = others_tasks b b' i o n d.1
-move_keeps b b' i p z h says (kills c o was table owner is queue words version dead visits_it empties_it frees_it comes_it gone rest) =
-    kill_keeps b b' i h says z queue (others_tasks b b' i o) c was table owner is words version dead visits_it empties_it frees_it comes_it
+move_keeps b b' i p z h says
+    (kills c o was table owner is queue words version dead visits_it empties_it frees_it comes_it gone rest) =
+    kill_keeps b b' i h says z queue
+    (others_tasks b b' i o) c was table owner is words version dead visits_it empties_it frees_it comes_it
 move_keeps b b' i p z h says (frees c sender o was now queue is gone waited words version dead none pl) =
-    step_keeps b b' i h (free_step b b' i h says z (others_tasks b b' i o) c sender was now queue is waited words version dead none)
-move_keeps b b' i p z h says (empties c o sender os was gone which visits_it empties_it frees_it comes_it owner is here but version dead words same none pl) =
-    step_keeps b b' i h (empty_step b b' i h says z (others_tasks b b' i os) c o sender was which visits_it empties_it frees_it comes_it owner is here but version dead words same none)
+    step_keeps b b' i h (free_step b b' i h says z
+    (others_tasks b b' i o) c sender was now queue is waited words version dead none)
+move_keeps b b' i p z h says
+    (empties c o sender os was gone which visits_it empties_it frees_it comes_it
+    owner is here but version dead words same none pl) =
+    step_keeps b b' i h (empty_step b b' i h says z
+    (others_tasks b b' i os) c o sender was which visits_it empties_it frees_it
+    comes_it owner is here but version dead words same none)
 move_keeps b b' i p z h says (goes_on c m o was visits_it frees_it comes_it words queue pl) =
     step_keeps b b' i h (onward_step b b' i h says z (others_tasks b b' i o) c m was visits_it frees_it comes_it words queue)
 move_keeps b b' i p z h says (visits c m o was visits_it frees_it comes_it owner gone words but once lefts keep cut pl) =
-    step_keeps b b' i h (visit_step b b' i h says z (others_tasks b b' i o) c m was visits_it frees_it comes_it owner gone words but once lefts keep)
+    step_keeps b b' i h (visit_step b b' i h says z
+    (others_tasks b b' i o) c m was visits_it frees_it comes_it owner gone words but once lefts keep)

@@ -29,7 +29,9 @@ waits_is to e w v s = rw (eq-eqb w.version (sender_of e).version v, s) refl
 
 pub waits_parts : (to : ThreadId) (e : SenderEntry) (w : StateWord) → waits_for to e w ≡ true →
     (w.version ≡ (sender_of e).version) × (sends_to to w.state ≡ true)
-waits_parts to e w h = let p = and_parts (eqb w.version (sender_of e).version) (sends_to to w.state) h in (eqb-true w.version (sender_of e).version p.0, p.1)
+waits_parts to e w h =
+    let p = and_parts (eqb w.version (sender_of e).version) (sends_to to w.state) h in
+    (eqb-true w.version (sender_of e).version p.0, p.1)
 
 pub id_stays : (b b' : Board) (n : ℕ) → (b'.seen n).word.version ≡ (b.seen n).word.version → id_at b' n ≡ id_at b n
 id_stays b b' n e = ap (λ (v : ℕ). record { number = n; version = v }) e
@@ -87,15 +89,20 @@ module _ (b b' : Board) (i : ℕ) (h : QueuesHold b) (s : QueueStep b b' i) wher
   reason_stays t n e q (by_wait w) =
       let p = waits_parts (id_at b t) e (b.seen n).word w in
       elim (s.waits t n e q p.1) [
-        | inl y ↦ by_wait (waits_is (id_at b' t) e (b'.seen n).word (s.version n ∙ p.0) (subst (λ (id : ThreadId). sends_to id (b'.seen n).word.state ≡ true) (sym (id_is t)) y))
+        | inl y ↦
+            by_wait (waits_is (id_at b' t) e (b'.seen n).word (s.version n ∙ p.0)
+            (subst (λ (id : ThreadId). sends_to id (b'.seen n).word.state ≡ true) (sym (id_is t)) y))
         | inr y ↦ y
       ]
   reason_stays t n e q (by_take k) = by_take (elim (by_i t) [
-    | inl d ↦ subst (λ (m : ℕ). task_of b' m ≡ TakesOut e) (sym d) (s.taken n e (subst (λ (m : ℕ). entry_of n (b'.queue m) ≡ Some e) d q) (subst (λ (m : ℕ). task_of b m ≡ TakesOut e) d k))
+    | inl d ↦
+        subst (λ (m : ℕ). task_of b' m ≡ TakesOut e) (sym d)
+        (s.taken n e (subst (λ (m : ℕ). entry_of n (b'.queue m) ≡ Some e) d q) (subst (λ (m : ℕ). task_of b m ≡ TakesOut e) d k))
     | inr d ↦ s.others t d ∙ k
   ])
   reason_stays t n e q (by_free k) = by_free (somewhere_stays b b' i s.others (λ (k : Task). IsFreed k t n) (s.freed t n e q) k)
-  reason_stays t n e q (by_kill k) = by_kill (somewhere_stays b b' i s.others (λ (k : Task). IsToVisit k (sender_of e) t) (s.killed t n e q) k)
+  reason_stays t n e q (by_kill k) =
+      by_kill (somewhere_stays b b' i s.others (λ (k : Task). IsToVisit k (sender_of e) t) (s.killed t n e q) k)
 
   reasons_stay : (t n : ℕ) (e : SenderEntry) → entry_of n (b'.queue t) ≡ Some e → Reason b' t n e
   reasons_stay t n e q = elim (s.entries t n e q) [ inl y ↦ reason_stays t n e q (h.reasons t n e y) | inr y ↦ y ]
@@ -103,7 +110,9 @@ module _ (b b' : Board) (i : ℕ) (h : QueuesHold b) (s : QueueStep b b' i) wher
   entry_stays : (n : ℕ) (to : ThreadId) → sends_to to (b'.seen n).word.state ≡ true → (task_of b n ≡ Comes to) ⊎ HasEntry b n to →
       (task_of b' n ≡ Comes to) ⊎ HasEntry b' n to
   entry_stays n to w (inl k) = elim (by_i n) [
-    | inl d ↦ subst (λ (m : ℕ). (task_of b' m ≡ Comes to) ⊎ HasEntry b' m to) (sym d) (s.comes to (subst (λ (m : ℕ). task_of b m ≡ Comes to) d k))
+    | inl d ↦
+        subst (λ (m : ℕ). (task_of b' m ≡ Comes to) ⊎ HasEntry b' m to) (sym d)
+        (s.comes to (subst (λ (m : ℕ). task_of b m ≡ Comes to) d k))
     | inr d ↦ inl (s.others n d ∙ k)
   ]
   entry_stays n to w (inr k) = inr (s.stands n to w k)
@@ -115,7 +124,8 @@ module _ (b b' : Board) (i : ℕ) (h : QueuesHold b) (s : QueueStep b b' i) wher
       record {
         entry = e;
         there = elim q.there [
-          | inl y ↦ inl (present_stays (b.seen to.number).word (b'.seen to.number).word to (s.version to.number) (s.dead to.number) y)
+          | inl y ↦
+              inl (present_stays (b.seen to.number).word (b'.seen to.number).word to (s.version to.number) (s.dead to.number) y)
           | inr y ↦ inr (somewhere_stays b b' i s.others (λ (k : Task). IsEmptied k to) (s.emptied n to w e) y)
         ];
       }
@@ -123,21 +133,29 @@ module _ (b b' : Board) (i : ℕ) (h : QueuesHold b) (s : QueueStep b b' i) wher
   coming_stays : (n : ℕ) (to : ThreadId) → task_of b' n ≡ Comes to → is_dead (b'.seen n).word ≡ true → (n ≡ i) ⊎ (n ≢ i) →
       Somewhere b' (λ (k : Task). IsToVisit k (id_at b' n) to.number)
   coming_stays n to k d (inl e) =
-      let was = subst (λ (m : ℕ). task_of b m ≡ Comes to) (sym e) (s.new_comes to (subst (λ (m : ℕ). task_of b' m ≡ Comes to) e k)) in
+      let was = subst (λ (m : ℕ). task_of b m ≡ Comes to) (sym e)
+      (s.new_comes to (subst (λ (m : ℕ). task_of b' m ≡ Comes to) e k)) in
       subst (λ (id : ThreadId). Somewhere b' (λ (k : Task). IsToVisit k id to.number)) (sym (id_is n))
-      (somewhere_stays b b' i s.others (λ (k : Task). IsToVisit k (id_at b n) to.number) (λ v. absurd (not_me (id_at b n) (subst (λ (m : ℕ). task_of b m ≡ Comes to) e was) v)) (h.coming n to was (sym (s.dead n) ∙ d)))
+      (somewhere_stays b b' i s.others (λ (k : Task). IsToVisit k (id_at b n) to.number)
+      (λ v. absurd (not_me (id_at b n) (subst (λ (m : ℕ). task_of b m ≡ Comes to) e was) v))
+      (h.coming n to was (sym (s.dead n) ∙ d)))
     where
       not_me : (id : ThreadId) → task_of b i ≡ Comes to → IsToVisit (task_of b i) id to.number → ⊥
       not_me id z v = subst (λ (k : Task). IsToVisit k id to.number) z v
   coming_stays n to k d (inr e) =
       let was = sym (s.others n e) ∙ k in
       subst (λ (id : ThreadId). Somewhere b' (λ (k : Task). IsToVisit k id to.number)) (sym (id_is n))
-      (somewhere_stays b b' i s.others (λ (k : Task). IsToVisit k (id_at b n) to.number) (s.visits n to e was) (h.coming n to was (sym (s.dead n) ∙ d)))
+      (somewhere_stays b b' i s.others (λ (k : Task). IsToVisit k (id_at b n) to.number) (s.visits n to e was)
+      (h.coming n to was (sym (s.dead n) ∙ d)))
 
   freed_stays : (j t n : ℕ) → IsFreed (task_of b' j) t n → (j ≡ i) ⊎ (j ≢ i) →
       sends_to (id_at b' t) (b'.seen n).word.state ≡ false
-  freed_stays j t n k (inl e) = subst (λ (id : ThreadId). sends_to id (b'.seen n).word.state ≡ false) (sym (id_is t)) (s.new_freed t n (subst (λ (m : ℕ). IsFreed (task_of b' m) t n) e k))
-  freed_stays j t n k (inr e) = subst (λ (id : ThreadId). sends_to id (b'.seen n).word.state ≡ false) (sym (id_is t)) (not_back n (id_at b t) (h.freed j t n (subst (λ (u : Task). IsFreed u t n) (s.others j e) k)))
+  freed_stays j t n k (inl e) =
+      subst (λ (id : ThreadId). sends_to id (b'.seen n).word.state ≡ false) (sym (id_is t))
+      (s.new_freed t n (subst (λ (m : ℕ). IsFreed (task_of b' m) t n) e k))
+  freed_stays j t n k (inr e) =
+      subst (λ (id : ThreadId). sends_to id (b'.seen n).word.state ≡ false) (sym (id_is t))
+      (not_back n (id_at b t) (h.freed j t n (subst (λ (u : Task). IsFreed u t n) (s.others j e) k)))
 
   pub step_keeps : QueuesHold b'
   step_keeps = record {

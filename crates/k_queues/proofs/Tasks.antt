@@ -23,13 +23,15 @@ use Rattle.k_threads.specs.declared.destroy.DestroyPushing.TheVariants as destro
 use Rattle.k_threads.specs.DestroyTable.{DestroyAt}
 use Rattle.k_threads.specs.DestroyTable as destroy
 use Rattle.k_board.specs.Words.{Programs}
-use Rattle.k_board.specs.Boards.{At, Alone, InSend, InReceive, InCreate, InDestroy, InSwitch, Resting, Coming, Nowhere, Board, Context}
+use Rattle.k_board.specs.Boards.{At, Alone, InSend, InReceive, InCreate, InDestroy}
+use Rattle.k_board.specs.Boards.{InSwitch, Resting, Coming, Nowhere, Board, Context}
 use Rattle.k_board.specs.Facts.{AllSay}
 use Rattle.k_board.specs.Steps.{Holds}
 use Rattle.k_board.specs.Places.{PlacesHold, facts_destroy, facts_of, facts_receive, facts_send}
 use Rattle.k_good.specs.Ranges.{FitsAt, IsWithin}
 use Rattle.k_queues.proofs.Entries.{some_is}
-use Rattle.k_queues.specs.Tasks.{Comes, Empties, Idle, IsEmptied, IsFreed, IsToVisit, Somewhere, TakesOut, Task, Visits, task_at, task_destroy, task_of, task_receive, task_send}
+use Rattle.k_queues.specs.Tasks.{Comes, Empties, Idle, IsEmptied, IsFreed, IsToVisit, Somewhere, TakesOut}
+use Rattle.k_queues.specs.Tasks.{Task, Visits, task_at, task_destroy, task_of, task_receive, task_send}
 
 -- the victim is no more, and the table lock is held
 pub record IsDestroying (b : Board) (n : ℕ) (who : ThreadId) : Type 0 where
@@ -151,10 +153,16 @@ module _ (b : Board) (says : (n : ℕ) → TaskSays b n (task_of b n)) (i : ℕ)
   mine_is n e = some_is (sym e ∙ table)
 
   pub visits_mine : (t : ℕ) (id : ThreadId) → Somewhere b (λ (k : Task). IsToVisit k id t) → IsToVisit (task_of b i) id t
-  visits_mine t id s = subst (λ (n : ℕ). IsToVisit (task_of b n) id t) (mine_is s.number (visits_destroying b s.number t id (task_of b s.number) (says s.number) s.has)) s.has
+  visits_mine t id s =
+      subst (λ (n : ℕ). IsToVisit (task_of b n) id t) (mine_is s.number
+      (visits_destroying b s.number t id (task_of b s.number) (says s.number) s.has)) s.has
 
   pub freed_mine : (t m : ℕ) → Somewhere b (λ (k : Task). IsFreed k t m) → IsFreed (task_of b i) t m
-  freed_mine t m s = subst (λ (n : ℕ). IsFreed (task_of b n) t m) (mine_is s.number (freed_destroying b s.number t m (task_of b s.number) (says s.number) s.has).0) s.has
+  freed_mine t m s =
+      subst (λ (n : ℕ). IsFreed (task_of b n) t m) (mine_is s.number
+      (freed_destroying b s.number t m (task_of b s.number) (says s.number) s.has).0) s.has
 
   pub emptied_mine : (to : ThreadId) → Somewhere b (λ (k : Task). IsEmptied k to) → IsEmptied (task_of b i) to
-  emptied_mine to s = subst (λ (n : ℕ). IsEmptied (task_of b n) to) (mine_is s.number (emptied_destroying b s.number to (task_of b s.number) (says s.number) s.has).table) s.has
+  emptied_mine to s =
+      subst (λ (n : ℕ). IsEmptied (task_of b n) to) (mine_is s.number
+      (emptied_destroying b s.number to (task_of b s.number) (says s.number) s.has).table) s.has

@@ -23,12 +23,14 @@ use Rattle.k_switch.specs.Switches as switch
 use Rattle.k_locks.specs.Asks.{Response}
 use Rattle.k_locks.specs.Asks as asks
 use Rattle.k_board.specs.Words.{Programs}
-use Rattle.k_board.specs.Boards.{At, Alone, InCreate, InDestroy, InReceive, InSend, InSwitch, Resting, Board, Context, hand_of, id_at}
+use Rattle.k_board.specs.Boards.{At, Alone, InCreate, InDestroy, InReceive, InSend}
+use Rattle.k_board.specs.Boards.{InSwitch, Resting, Board, Context, hand_of, id_at}
 use Rattle.k_board.specs.Boots.{Booted, has_carrier, has_none, has_thread}
 use Rattle.k_board.specs.Facts.{AllSay, AllWait, waits_for}
 use Rattle.k_board.specs.Places.{facts_alone, facts_of}
 use Rattle.k_board.specs.Steps.{alone_board, alone_context, begun, begun_at, placed, switch_board, switch_context, working}
-use Rattle.k_board.specs.Turns.{Turn, begins, begins_switch, creates, destroys, ends_switch, goes_alone, receives, sends, switches, turns_to_work, wakes}
+use Rattle.k_board.specs.Turns.{Turn, begins, begins_switch, creates, destroys, ends_switch}
+use Rattle.k_board.specs.Turns.{goes_alone, receives, sends, switches, turns_to_work, wakes}
 use Rattle.k_good.specs.Good.{IsGood, QueuesTell}
 use Rattle.k_good.specs.Ranges.{FitsAt, IsWithin, is_threads}
 use Rattle.k_good.proofs.RangesKeep.{send_caller}
@@ -102,35 +104,49 @@ module _ (g : Programs) (b : Board) (good : IsGood g b) (w : IsWithin b) (h : Qu
       Move b (placed b i x) i None
   at_rest i x p at was now =
       let idle = ap task_at at ∙ was in
-      stays (sides b (placed b i x) i x (λ n. refl)) (task_mine b (placed b i x) i x (λ n. refl) ∙ now ∙ sym idle) (λ to e. idle_comes (sym idle ∙ e)) (λ t. refl)
+      stays (sides b (placed b i x) i x (λ n. refl)) (task_mine b (placed b i x) i x (λ n. refl) ∙ now ∙ sym idle)
+      (λ to e. idle_comes (sym idle ∙ e)) (λ t. refl)
       (λ t. same_wait (b.seen t).word (b.seen t).word refl) plain_none
 
   me_in : (i : ℕ) (me : ThreadId) → (me.number ≡ i) × (me.version ≡ (b.seen i).word.version) →
       is_threads (b.context i).at ≡ true → IsInRange b.size me
-  me_in i me m t = subst (λ (id : ThreadId). IsInRange b.size id) (λ d. record { number = sym m.0 d; version = sym m.1 d }) (w.threads i t)
+  me_in i me m t =
+      subst (λ (id : ThreadId). IsInRange b.size id) (λ d. record { number = sym m.0 d; version = sym m.1 d }) (w.threads i t)
 
   -- of which kind a turn is
   pub turn_moves : (i : ℕ) (b' : Board) (t : Turn g b i b') → Move b b' i (point_of g b i b' t)
-  turn_moves i _ (sends c p r at an) = send_moves g b i h says good.outward c (me_in i c.caller (send_caller g b i (b.context i) c p (facts_at i (InSend c p) at)) (ap is_threads at)) (target_at i (InSend c p) at) p r at an (facts_at i (InSend c p) at)
+  turn_moves i _ (sends c p r at an) =
+      send_moves g b i h says good.outward c (me_in i c.caller (send_caller g b i (b.context i) c p (facts_at i (InSend c p) at))
+      (ap is_threads at)) (target_at i (InSend c p) at) p r at an (facts_at i (InSend c p) at)
   turn_moves i _ (receives c p r at an) = receive_moves g b i c p r at an (facts_at i (InReceive c p) at)
   turn_moves i _ (creates c p r at an) = create_moves g b i c p r at an (facts_at i (InCreate c p) at)
-  turn_moves i _ (destroys c p r at an) = let t = target_at i (InDestroy c p) at in destroy_moves g b i h says c t.0 t.1 p r at an (facts_at i (InDestroy c p) at)
+  turn_moves i _ (destroys c p r at an) =
+      let t = target_at i (InDestroy c p) at in destroy_moves g b i h says c t.0 t.1 p r at an (facts_at i (InDestroy c p) at)
   turn_moves i _ (goes_alone p r at can an) =
       let b' = alone_board g b i (b.context i) p r in
       let x = alone_context (b.context i) p r in
-      stays (sides b b' i x (λ n. refl)) (task_mine b b' i x (λ n. refl) ∙ sym (ap task_at at)) (λ to e. idle_comes (sym (ap task_at at) ∙ e)) (λ t. refl)
-      (words_quiet g b (b.context i).position (alone.points (id_at b i) p r) (alone.ask_of (id_at b i) (b.context i).own p) r an (λ z. alone_quiet g b i (b.context i) (id_at b i) p (facts_at i (Alone p) at)))
+      stays (sides b b' i x (λ n. refl)) (task_mine b b' i x (λ n. refl) ∙ sym (ap task_at at))
+      (λ to e. idle_comes (sym (ap task_at at) ∙ e)) (λ t. refl)
+      (words_quiet g b (b.context i).position (alone.points (id_at b i) p r) (alone.ask_of (id_at b i) (b.context i).own p) r an
+      (λ z. alone_quiet g b i (b.context i) (id_at b i) p (facts_at i (Alone p) at)))
       (alone_plain (id_at b i) p r)
-  turn_moves i _ (begins l f at e) = at_rest i (begun g (b.context i) l (begun_at b.size (id_at b i) f)) (Alone (location.Between l)) at refl (begun_idle b.size (id_at b i) f)
-  turn_moves i _ (turns_to_work l count at e) = at_rest i (working g (b.context i) l count) (Alone (location.Between l)) at refl refl
-  turn_moves i _ (wakes at) = at_rest i (record (b.context i) { at = Alone location.LookAgain }) (Alone location.Asleep) at refl refl
+  turn_moves i _ (begins l f at e) =
+      at_rest i (begun g (b.context i) l (begun_at b.size (id_at b i) f)) (Alone (location.Between l)) at refl
+      (begun_idle b.size (id_at b i) f)
+  turn_moves i _ (turns_to_work l count at e) =
+      at_rest i (working g (b.context i) l count) (Alone (location.Between l)) at refl refl
+  turn_moves i _ (wakes at) =
+      at_rest i (record (b.context i) { at = Alone location.LookAgain }) (Alone location.Asleep) at refl refl
   turn_moves i _ (switches c p r at going an) =
       let b' = switch_board b i (b.context i) c p r in
       let x = switch_context (b.context i) c p r (hand_of b []) in
-      stays (sides b b' i x (λ n. refl)) (task_mine b b' i x (λ n. refl) ∙ sym (ap task_at at)) (λ to e. idle_comes (sym (ap task_at at) ∙ e)) (λ t. refl)
+      stays (sides b b' i x (λ n. refl)) (task_mine b b' i x (λ n. refl) ∙ sym (ap task_at at))
+      (λ to e. idle_comes (sym (ap task_at at) ∙ e)) (λ t. refl)
       (λ t. same_wait (b.seen t).word (b.seen t).word refl) plain_none
-  turn_moves i _ (begins_switch c at) = at_rest i (record (b.context i) { at = InSwitch c switch.AcquireReady }) Resting at refl refl
-  turn_moves i _ (ends_switch c s at) = at_rest i (record (b.context i) { at = Resting }) (InSwitch c (switch.Finished s)) at refl refl
+  turn_moves i _ (begins_switch c at) =
+      at_rest i (record (b.context i) { at = InSwitch c switch.AcquireReady }) Resting at refl refl
+  turn_moves i _ (ends_switch c s at) =
+      at_rest i (record (b.context i) { at = Resting }) (InSwitch c (switch.Finished s)) at refl refl
 
   pub turn_keeps_queues : (i : ℕ) (b' : Board) → Turn g b i b' → QueuesHold b'
   turn_keeps_queues i b' t = move_keeps b b' i (point_of g b i b' t) (turn_size g b i b' t) h says (turn_moves i b' t)
@@ -140,7 +156,9 @@ module _ (g : Programs) (b : Board) (good : IsGood g b) (w : IsWithin b) (h : Qu
   -- those in the queue of one that is destroyed wait for it
   row : (i : ℕ) (c : DestroyCall) (v : StateWord) → (b.context i).at ≡ InDestroy c (destroy.Victim (victim.CommitKill v)) →
       (b.seen c.who.number).word ≡ v → AllWait c.who b.seen (b.queue c.who.number)
-  row i c v at won = all_wait c.who b.seen (b.queue c.who.number) (h.once c.who.number) (λ n e q. subst (λ (id : ThreadId). waits_for id e (b.seen n).word ≡ true) is (stays n e (h.reasons c.who.number n e q)))
+  row i c v at won =
+      all_wait c.who b.seen (b.queue c.who.number) (h.once c.who.number)
+      (λ n e q. subst (λ (id : ThreadId). waits_for id e (b.seen n).word ≡ true) is (stays n e (h.reasons c.who.number n e q)))
     where
       f : AllSay g b i (b.context i) (facts_of (InDestroy c (destroy.Victim (victim.CommitKill v))))
       f = facts_at i (InDestroy c (destroy.Victim (victim.CommitKill v))) at
@@ -149,18 +167,29 @@ module _ (g : Programs) (b : Board) (good : IsGood g b) (w : IsWithin b) (h : Qu
       was = ap task_at at
 
       is : id_at b c.who.number ≡ c.who
-      is = ap (λ (k : ℕ). record { number = c.who.number; version = k }) (ap (λ (u : StateWord). u.version) won ∙ eqb-true v.version c.who.version (and_parts (eqb v.version c.who.version) (not (is_dead v)) f.1.1.1.1.1.1.1.0).0)
+      is =
+          ap (λ (k : ℕ). record { number = c.who.number; version = k })
+          (ap (λ (u : StateWord). u.version) won ∙ eqb-true v.version c.who.version
+          (and_parts (eqb v.version c.who.version) (not (is_dead v)) f.1.1.1.1.1.1.1.0).0)
 
       stays : (n : ℕ) (e : SenderEntry) → Reason b c.who.number n e → waits_for (id_at b c.who.number) e (b.seen n).word ≡ true
       stays n e (by_wait k) = k
       stays n e (by_take k) =
           let mine : c.who.number ≡ i = some_is (sym (subst (TaskSays b c.who.number) k (says c.who.number)) ∙ f.1.1.0) in
           absurd (idle_takes (sym was ∙ ap (task_of b) (sym mine) ∙ k))
-      stays n e (by_free k) = absurd (subst (λ (u : Task). IsFreed u c.who.number n) was (freed_mine b says i f.1.0 c.who.number n k))
-      stays n e (by_kill k) = absurd (subst (λ (u : Task). IsToVisit u (sender_of e) c.who.number) was (visits_mine b says i f.1.0 c.who.number (sender_of e) k))
+      stays n e (by_free k) =
+          absurd (subst (λ (u : Task). IsFreed u c.who.number n) was (freed_mine b says i f.1.0 c.who.number n k))
+      stays n e (by_kill k) =
+          absurd (subst (λ (u : Task). IsToVisit u (sender_of e) c.who.number) was
+          (visits_mine b says i f.1.0 c.who.number (sender_of e) k))
 
   pub queues_tell : (i : ℕ) → CallsUnanswered b → QueuesTell b i
-  queues_tell i u = record { once = h.once; unanswered = u; fresh = λ c at won. fresh_here g b i h says c (facts_at i (InSend c (send.Locked send_locked.CommitWait)) at) won; row = row i }
+  queues_tell i u = record {
+    once = h.once;
+    unanswered = u;
+    fresh = λ c at won. fresh_here g b i h says c (facts_at i (InSend c (send.Locked send_locked.CommitWait)) at) won;
+    row = row i;
+  }
 
 -- THE START
 

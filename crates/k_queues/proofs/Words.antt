@@ -59,7 +59,11 @@ open_calm state.Picking o = refl
 open_calm state.Ended o = absurd cc
 
 pub calm_wait : (w u : StateWord) → u.version ≡ w.version → is_calm w.state ≡ true → is_calm u.state ≡ true → SameWait w u
-calm_wait w u v c d = record { version = v; dead = calm_alive u.state d ∙ sym (calm_alive w.state c); sends = λ to. calm_silent u.state to d ∙ sym (calm_silent w.state to c) }
+calm_wait w u v c d = record {
+  version = v;
+  dead = calm_alive u.state d ∙ sym (calm_alive w.state c);
+  sends = λ to. calm_silent u.state to d ∙ sym (calm_silent w.state to c);
+}
 
 -- an exchange after which the word tells the same
 abbrev pub IsQuietAsk : Ask → Type 0
@@ -80,11 +84,15 @@ words_quiet g b at p a r an q n = elim (word_after g b at p a r an n) [
 -- an exchange that is won
 pub written_word : (g : Programs) (b : Board) (at : Position) (p : Option Point) (n : ℕ) (old new : StateWord) →
     (wrote (noted g b.seen at p) (asks.Exchange n old new) asks.Won n).word ≡ new
-written_word g b at p n old new = ap (λ (v : Seen). v.word) (upd_same (noted g b.seen at p) n (with_word (noted g b.seen at p n) new))
+written_word g b at p n old new =
+    ap (λ (v : Seen). v.word) (upd_same (noted g b.seen at p) n (with_word (noted g b.seen at p n) new))
 
 pub unwritten_word : (g : Programs) (b : Board) (at : Position) (p : Option Point) (n : ℕ) (old new : StateWord) (t : ℕ) → t ≢ n →
     SameWait (b.seen t).word (wrote (noted g b.seen at p) (asks.Exchange n old new) asks.Won t).word
-unwritten_word g b at p n old new t ne = same_wait (b.seen t).word (wrote (noted g b.seen at p) (asks.Exchange n old new) asks.Won t).word (ap (λ (v : Seen). v.word) (upd_other (noted g b.seen at p) n (with_word (noted g b.seen at p n) new) t ne) ∙ noted_word g b.seen at p t)
+unwritten_word g b at p n old new t ne =
+    same_wait (b.seen t).word (wrote (noted g b.seen at p) (asks.Exchange n old new) asks.Won t).word
+    (ap (λ (v : Seen). v.word) (upd_other (noted g b.seen at p) n (with_word (noted g b.seen at p n) new) t ne)
+    ∙ noted_word g b.seen at p t)
 
 pub lost_won : {w : StateWord} → asks.Lost w ≡ asks.Won → ⊥
 lost_won e = cc
@@ -106,7 +114,12 @@ module _ (b b' : Board) (i : ℕ) (x : Context) (m : ℕ) (y : Context)
     (moved : (n : ℕ) → b'.context n ≡ upd (upd b.context m y) i x n) where
   pub both_sides : task_at y.at ≡ Idle → task_of b m ≡ Idle → OthersStay b b' i
   both_sides now was n ne = elim (eqb_tells n m) [
-    | inl d ↦ inr (ap (task_of b) d.1 ∙ was, ap (λ (z : Context). task_at z.at) (moved n ∙ upd_other (upd b.context m y) i x n ne ∙ ap (upd b.context m y) d.1 ∙ upd_same b.context m y) ∙ now)
+    | inl d ↦
+        inr (
+          ap (task_of b) d.1 ∙ was,
+          ap (λ (z : Context). task_at z.at)
+              (moved n ∙ upd_other (upd b.context m y) i x n ne ∙ ap (upd b.context m y) d.1 ∙ upd_same b.context m y) ∙ now,
+        )
     | inr d ↦ inl (ap (λ (z : Context). z.at) (moved n ∙ upd_other (upd b.context m y) i x n ne ∙ upd_other b.context m y n d.1))
   ]
 

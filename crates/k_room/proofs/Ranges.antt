@@ -21,14 +21,16 @@ known_in k id table size r h = record {
 }
 
 -- what holds of each reply holds of the one that is found
-found_holds : (P : Reply → Type 0) (lines : List ReplyLine) (id : ThreadId) (serial : ℕ) (r : Reply) → AllByRecursion (λ line. P line.reply) lines → reply_to lines id serial ≡ Some r → P r
+found_holds : (P : Reply → Type 0) (lines : List ReplyLine) (id : ThreadId) (serial : ℕ) (r : Reply) →
+    AllByRecursion (λ line. P line.reply) lines → reply_to lines id serial ≡ Some r → P r
 found_holds P [] id serial r all e = let no : None ≡ Some r = e in absurd cc
 found_holds P (line ∷ lines) id serial r all e = elim (cases_Bool (is_reply_to id serial line)) [
   | inl t ↦ let same : Some line.reply ≡ Some r = rw t at e in let is : line.reply ≡ r = cc in subst P is all.0
   | inr f ↦ found_holds P lines id serial r all.1 (rw f at e)
 ]
 
-pub tells_in : (k : KernelState) (id : ThreadId) (serial table : ℕ) → k.size ≡ table → IsRanged k → TellsInRange table (reply_to k.replies id serial)
+pub tells_in : (k : KernelState) (id : ThreadId) (serial table : ℕ) → k.size ≡ table → IsRanged k →
+    TellsInRange table (reply_to k.replies id serial)
 tells_in k id serial table size r = go (reply_to k.replies id serial) refl
   where
     told : (x : Reply) → TellsKnown k x → TellsInRange table (Some x)

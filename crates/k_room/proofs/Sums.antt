@@ -27,7 +27,8 @@ sum_only m d (suc n) l = elim (cases_eq n m) [
 ]
 
 -- What is taken and what is added, number by number.
-pub sum_between : (f g takes adds : ℕ → ℕ) (size : ℕ) → ((t : ℕ) → g t + takes t ≤ f t + adds t) → sum_below g size + sum_below takes size ≤ sum_below f size + sum_below adds size
+pub sum_between : (f g takes adds : ℕ → ℕ) (size : ℕ) → ((t : ℕ) → g t + takes t ≤ f t + adds t) →
+    sum_below g size + sum_below takes size ≤ sum_below f size + sum_below adds size
 sum_between f g takes adds zero each = omega arith
 sum_between f g takes adds (suc n) each = omega (arith, sum_between f g takes adds n each, each n)
 

@@ -1,5 +1,6 @@
 -- A history that follows its script, as a whole.
-use Rattle.std.proofs.Common.{◌≡◌, ℕ, ◌+◌, ◌-◌, ◌*◌, ◌<◌, ◌≤◌, true, false, List, [], ◌∷◌, ◌++◌, length, refl, sym, ap, ◌∙◌, subst, arith, Some, None, is_some, inl, inr}
+use Rattle.std.proofs.Common.{◌≡◌, ℕ, ◌+◌, ◌-◌, ◌*◌, ◌<◌, ◌≤◌, true, false, List, [], ◌∷◌, ◌++◌, length}
+use Rattle.std.proofs.Common.{refl, sym, ap, ◌∙◌, subst, arith, Some, None, is_some, inl, inr}
 use Rattle.std.specs.Prelude.{nat_lt, ◌==◌}
 use Rattle.std.proofs.lemmas.List.{append-nil}
 use Rattle.std.proofs.lemmas.Bool.{cases_Bool, and_parts, false≢true}
@@ -14,7 +15,8 @@ use Rattle.k_model.specs.History.{IsFinished, IsReplay, opening_place}
 use Rattle.k_script.specs.Script.{Script}
 use Rattle.k_script.specs.Limits.{IsScript}
 use Rattle.k_script.specs.Weight.{phases_of}
-use Rattle.k_script.specs.Plays.{Position, first_id, is_first, opened_for, phases_left, program_of, reply_before, start_of, IsHistory, IsWithin, TellsInRange}
+use Rattle.k_script.specs.Plays.{Position, first_id, is_first, opened_for, phases_left, program_of}
+use Rattle.k_script.specs.Plays.{reply_before, start_of, IsHistory, IsWithin, TellsInRange}
 use Rattle.k_positions.specs.Positions.{positions_after, program_at}
 use Rattle.k_positions.proofs.Ends.{plays_from}
 use Rattle.k_positions.proofs.Going.{goes_on}
@@ -29,20 +31,24 @@ use Rattle.k_room.proofs.Inside.{runs_few, stands_within}
 use Rattle.k_room.proofs.Ranges.{tells_in}
 use Rattle.k_room.proofs.Stands.{counted_at, stands_from, stands_on, to_come_same}
 
-pub follows_from : (script : Script) (es : List Entry) (k : KernelState) (at : ℕ → Position) → IsPlaying script es k at → Follows script es k
+pub follows_from : (script : Script) (es : List Entry) (k : KernelState) (at : ℕ → Position) → IsPlaying script es k at →
+    Follows script es k
 follows_from script es k at p = record { legal = p.replay; plays = plays_from script es k at p }
 
-pub history_from : (script : Script) (es : List Entry) (k : KernelState) → Follows script es k → IsFinished k → IsHistory script es k
+pub history_from : (script : Script) (es : List Entry) (k : KernelState) → Follows script es k → IsFinished k →
+    IsHistory script es k
 history_from script es k f ends = record { legal = f.legal; plays = f.plays; finished = ends }
 
 -- A FRONT follows the script too.
-pub front_follows : (script : Script) (front behind : List Entry) (end : KernelState) → IsScript script → Follows script (front ++ behind) end → (k : KernelState) × Follows script front k × IsReplay k behind end
+pub front_follows : (script : Script) (front behind : List Entry) (end : KernelState) → IsScript script →
+    Follows script (front ++ behind) end → (k : KernelState) × Follows script front k × IsReplay k behind end
 front_follows script front behind end s f =
     let h = front_of script front behind end s f in
     (h.state, follows_from script front h.state h.positions h.counted.playing, h.rest)
 
 -- IT LEAVES ONE STATE.
-pub one_state : (script : Script) (es : List Entry) (k other : KernelState) → Follows script es k → Follows script es other → k ≡ other
+pub one_state : (script : Script) (es : List Entry) (k other : KernelState) → Follows script es k → Follows script es other →
+    k ≡ other
 one_state script es k other f g = replay_one (opened_for script) es k other f.legal g.legal
 
 -- AT FIRST
@@ -52,7 +58,9 @@ first_follows script s =
     let at : ℕ → Position = λ t. start_of script (program_at script t) (first_id t) in
     follows_from script [] (opened_for script) at (opens_playing script at s (λ t _. refl))
 
-first_stands : (script : Script) (at : ℕ → Position) → IsScript script → ((t : ℕ) → t < length script.threads → at t ≡ start_of script (program_at script t) (first_id t)) → AllStand script [] (opened_for script) at
+first_stands : (script : Script) (at : ℕ → Position) → IsScript script →
+    ((t : ℕ) → t < length script.threads → at t ≡ start_of script (program_at script t) (first_id t)) →
+    AllStand script [] (opened_for script) at
 first_stands script at s starts t =
     let k = opened_for script in
     let id = id_of k t in
@@ -68,12 +76,17 @@ first_stands script at s starts t =
   where
     first_alive : is_first script (id_of (opened_for script) t) ≡ true → is_dead ((opened_for script).place t).status ≡ true → ⊥
     first_alive f dead =
-        let test : nat_lt t (length script.threads) ≡ true = (and_parts ((opening_place script.aged (length script.threads) t).version == 1) (nat_lt t (length script.threads)) f).1 in
+        let test : nat_lt t (length script.threads) ≡ true =
+        (and_parts ((opening_place script.aged (length script.threads) t).version == 1)
+        (nat_lt t (length script.threads)) f).1 in
         let below : t < length script.threads = grind (arith, nat_tests, test) in
-        let alive : is_dead ((opened_for script).place t).status ≡ false = ap (λ (p : Place). is_dead p.status) (opens_new script at s starts t below) in
+        let alive : is_dead ((opened_for script).place t).status ≡ false =
+        ap (λ (p : Place). is_dead p.status) (opens_new script at s starts t below) in
         false≢true (sym alive ∙ dead)
 
-pub first_leads : (script : Script) (at : ℕ → Position) → IsScript script → ((t : ℕ) → t < length script.threads → at t ≡ start_of script (program_at script t) (first_id t)) → LeadsTo script [] (opened_for script) at
+pub first_leads : (script : Script) (at : ℕ → Position) → IsScript script →
+    ((t : ℕ) → t < length script.threads → at t ≡ start_of script (program_at script t) (first_id t)) →
+    LeadsTo script [] (opened_for script) at
 first_leads script at s starts = record { follows = first_follows script s; stand = first_stands script at s starts }
 
 -- THE WHOLE HISTORY is a front of itself.
@@ -89,7 +102,8 @@ whole_of script es k s f =
     let same : h.state ≡ k = sym h.rest in
     subst (IsWhole script es) same (record { positions = h.positions; counted = h.counted; few = h.few })
 
-pub whole_few : (script : Script) (es : List Entry) (k : KernelState) → IsScript script → Follows script es k → length es ≤ 2 * phases_of script
+pub whole_few : (script : Script) (es : List Entry) (k : KernelState) → IsScript script → Follows script es k →
+    length es ≤ 2 * phases_of script
 whole_few script es k s f = omega (arith, (whole_of script es k s f).few)
 
 -- THE STATE is one of a legal history.
@@ -106,17 +120,20 @@ module _ (script : Script) (es : List Entry) (k : KernelState) (s : IsScript scr
   pub state_ranged : IsRanged k
   state_ranged = (whole_of script es k s f).counted.playing.ranged
 
-pub told_within : (script : Script) (es : List Entry) (k : KernelState) → IsScript script → Follows script es k → (id : ThreadId) (serial : ℕ) → TellsInRange script.table (reply_to k.replies id serial)
+pub told_within : (script : Script) (es : List Entry) (k : KernelState) → IsScript script → Follows script es k →
+    (id : ThreadId) (serial : ℕ) → TellsInRange script.table (reply_to k.replies id serial)
 told_within script es k s f id serial =
     let p = (whole_of script es k s f).counted.playing in
     tells_in k id serial script.table p.size p.ranged
 
-pub present_has : (script : Script) (es : List Entry) (k : KernelState) (t : ℕ) → IsScript script → Follows script es k → is_dead (k.place t).status ≡ false → is_some (program_of script es (id_of k t)) ≡ true
+pub present_has : (script : Script) (es : List Entry) (k : KernelState) (t : ℕ) → IsScript script → Follows script es k →
+    is_dead (k.place t).status ≡ false → is_some (program_of script es (id_of k t)) ≡ true
 present_has script es k t s f alive = ap is_some ((whole_of script es k s f).counted.playing.present t alive).is
 
 -- WITH ITS POSITIONS
 
-module _ (script : Script) (es : List Entry) (k : KernelState) (at : ℕ → Position) (s : IsScript script) (l : LeadsTo script es k at) where
+module _ (script : Script) (es : List Entry) (k : KernelState) (at : ℕ → Position) (s : IsScript script)
+    (l : LeadsTo script es k at) where
   pub counted_here : IsCounted script es k at
   counted_here = let h = whole_of script es k s l.follows in counted_at script es k at h.positions l.stand h.counted
 
@@ -125,16 +142,21 @@ module _ (script : Script) (es : List Entry) (k : KernelState) (at : ℕ → Pos
       let h = whole_of script es k s l.follows in
       omega (arith, h.few, to_come_same script es k at h.positions l.stand h.counted.playing)
 
-  pub serials_few : (t : ℕ) → is_dead (k.place t).status ≡ false → (k.place t).serial + phases_left script (at t) ≤ phases_of script
+  pub serials_few : (t : ℕ) → is_dead (k.place t).status ≡ false →
+      (k.place t).serial + phases_left script (at t) ≤ phases_of script
   serials_few t alive = (counted_here.bounds t alive).bounded
 
   pub calls_are_few : (t program : ℕ) → program_of script es (id_of k t) ≡ Some program → (k.place t).serial ≤ length es
   calls_are_few t program is =
       let id = id_of k t in
-      runs_few script.version (reply_before k id) (start_of script program id) (at t) (k.place t).serial id es (subst (StandsIn script es k id (at t)) is (l.stand t))
+      runs_few script.version (reply_before k id) (start_of script program id) (at t) (k.place t).serial id es
+      (subst (StandsIn script es k id (at t)) is (l.stand t))
 
   pub place_within : (t program : ℕ) → program_of script es (id_of k t) ≡ Some program → IsWithin script (at t)
-  place_within t program is = stands_within script es k (id_of k t) program (at t) ((k.place t).serial + 1) s l.follows.legal (λ i. told_within script es k s l.follows (id_of k t) (i - 1)) is (subst (StandsIn script es k (id_of k t) (at t)) is (l.stand t))
+  place_within t program is =
+      stands_within script es k (id_of k t) program (at t) ((k.place t).serial + 1) s l.follows.legal
+      (λ i. told_within script es k s l.follows (id_of k t) (i - 1)) is
+      (subst (StandsIn script es k (id_of k t) (at t)) is (l.stand t))
 
   module _ (n : KernelState) (e : Entry) (x : ComesNext script k at e n) where
     pub leads_on : LeadsTo script (es ++ e ∷ []) n (positions_after script k at e)

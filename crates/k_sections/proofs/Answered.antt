@@ -35,7 +35,8 @@ held_owned b h (lock.Thread n) i q = h.named (lock.Thread n) i q
 held_owned b h lock.Table i q = h.named lock.Table i q
 held_owned b h lock.Ready i q = h.named lock.Ready i q
 
-pub unheld_owns : (b : Board) → Named b → (n : ℕ) → lowest_held (locks_at (b.context n).at) ≡ None → (l : Lock) → owner_of b l ≢ Some n
+pub unheld_owns : (b : Board) → Named b → (n : ℕ) → lowest_held (locks_at (b.context n).at) ≡ None → (l : Lock) →
+    owner_of b l ≢ Some n
 unheld_owns b h n e l q = some_lowest (locks_at (b.context n).at) (rank_of l) l (owned_held b h l n q) e
 
 pub holder_is : (b : Board) (l : Lock) → holder_of b (want_for l) ≡ owner_of b l

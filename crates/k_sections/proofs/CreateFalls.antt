@@ -9,8 +9,10 @@ use Rattle.k_locks.specs.Tables.{hand_came}
 use Rattle.k_locks.proofs.Responses.{Each, made_by}
 use Rattle.k_threads.specs.declared.create.CreateCall.{CreateCall}
 use Rattle.k_threads.specs.declared.create.CreateOutside.TheVariants.{AcquireTable, Ended}
-use Rattle.k_threads.specs.declared.create.CreateLocked.TheVariants.{LoadCaller, PlaceContext, CommitCreate, AcquireReady, Release}
-use Rattle.k_threads.specs.CreateTable.{CreateAt, IsNotLost, Outside, Locked, PushCreated, ask_of, create_table, hand_after, leads, left_of, locks_of, rest_of}
+use Rattle.k_threads.specs.declared.create.CreateLocked.TheVariants.{LoadCaller, PlaceContext}
+use Rattle.k_threads.specs.declared.create.CreateLocked.TheVariants.{CommitCreate, AcquireReady, Release}
+use Rattle.k_threads.specs.CreateTable.{CreateAt, IsNotLost, Outside, Locked, PushCreated, ask_of}
+use Rattle.k_threads.specs.CreateTable.{create_table, hand_after, leads, left_of, locks_of, rest_of}
 use Rattle.k_switch.specs.declared.switch.SwitchCall.{SwitchCall}
 use Rattle.k_switch.specs.Switches.{SwitchAt}
 use Rattle.k_switch.specs.Switches as switch
@@ -26,7 +28,8 @@ use Rattle.k_sections.proofs.Falls.{always, brought, ended_rest, fall_by, never}
 use Rattle.k_sections.proofs.Tables.{ThreadTables}
 
 -- The steps that are left of a create depend neither on what is in hand nor on a loaded word.
-pub same_rest : (c : CreateCall) (h h' : Hand) (there there' : Bool) (p : CreateAt) (k : Lock) → rest_of c h there p k ≡ rest_of c h' there' p k
+pub same_rest : (c : CreateCall) (h h' : Hand) (there there' : Bool) (p : CreateAt) (k : Lock) →
+    rest_of c h there p k ≡ rest_of c h' there' p k
 same_rest c h h' there there' p (lock.Thread n) = refl
 same_rest c h h' there there' p lock.Table = refl
 same_rest c h h' there there' p lock.Ready = refl
@@ -56,17 +59,21 @@ module _ (tables : ThreadTables) (g : Programs) (b : Board) (i : ℕ) (c : Creat
 
   made_rest : (b' : Board) (p : CreateAt) (k : Lock) (h : Hand) → rest_at b' i (create_at c p) k ≤ rest_of c h true p k
   made_rest b' (Outside (Ended w)) k h = let e = ended_rest b' i c.caller w k in omega (arith, e)
-  made_rest b' (Outside AcquireTable) k h = let e = same_rest c (hand_of b' []) h true true (Outside AcquireTable) k in omega (arith, e)
+  made_rest b' (Outside AcquireTable) k h =
+      let e = same_rest c (hand_of b' []) h true true (Outside AcquireTable) k in omega (arith, e)
   made_rest b' (Locked p) k h = let e = same_rest c (hand_of b' []) h true true (Locked p) k in omega (arith, e)
   made_rest b' (PushCreated id) k h = let e = same_rest c (hand_of b' []) h true true (PushCreated id) k in omega (arith, e)
 
-  pub create_falls : (p : CreateAt) → AllSay g b i x (facts_create c p) → (k : Lock) → Holds k (locks_of c p) → (r : Response) → Answers b (ask_of c x.own p) r → is_again r ≡ false → 1 + rest_at (create_board g b i x c p r) i (create_at c (leads c hand p r)) k ≤ rest_at b i (InCreate c p) k
+  pub create_falls : (p : CreateAt) → AllSay g b i x (facts_create c p) → (k : Lock) → Holds k (locks_of c p) → (r : Response) →
+      Answers b (ask_of c x.own p) r → is_again r ≡ false →
+      1 + rest_at (create_board g b i x c p r) i (create_at c (leads c hand p r)) k ≤ rest_at b i (InCreate c p) k
   create_falls p f k holds r may once =
       let a = ask_of c x.own p in
       let b' = create_board g b i x c p r in
       let p' = leads c hand p r in
       let suits = suits_is b a r may in
-      fall_by (create_table c) (tables.create_in_time c) (rest_above c) b k x.own hand p r true true (rest_at b' i (create_at c p') k) tt holds suits once (made_by a r (Told p) suits once (create_tells p f) may) never always
+      fall_by (create_table c) (tables.create_in_time c) (rest_above c) b k x.own hand p r true true
+      (rest_at b' i (create_at c p') k) tt holds suits once (made_by a r (Told p) suits once (create_tells p f) may) never always
       (made_rest b' p' k (hand_came r (brought b a) (hand_after c hand p r)))
 
   pub create_within : (p : CreateAt) (k : Lock) → rest_at b i (InCreate c p) k ≤ left_of c hand p k
@@ -75,8 +82,11 @@ module _ (tables : ThreadTables) (g : Programs) (b : Board) (i : ℕ) (c : Creat
   create_within p (lock.Thread n) = omega arith
 
 module _ (b : Board) (i : ℕ) (c : SwitchCall) where
-  pub switch_falls : (p : SwitchAt) (k : Lock) → Holds k (switch.locks_of p) → (r : Response) → Answers b (switch.ask_of c p) r → is_again r ≡ false → 1 + rest_at (switch_board b i (b.context i) c p r) i (InSwitch c (switch.leads c (hand_of b []) p r)) k ≤ rest_at b i (InSwitch c p) k
+  pub switch_falls : (p : SwitchAt) (k : Lock) → Holds k (switch.locks_of p) → (r : Response) → Answers b (switch.ask_of c p) r →
+      is_again r ≡ false → 1 + rest_at (switch_board b i (b.context i) c p r) i
+      (InSwitch c (switch.leads c (hand_of b []) p r)) k ≤ rest_at b i (InSwitch c p) k
   switch_falls p k holds r may once =
       let a = switch.ask_of c p in
       let p' = switch.leads c (hand_of b []) p r in
-      fall_by (switch.switch_table c) (switch_runs.in_time c) (λ h l there k. omega arith) b k (b.context i).own (hand_of b []) p r true true (switch.left_of c p' k) tt holds (suits_is b a r may) once tt never always (omega arith)
+      fall_by (switch.switch_table c) (switch_runs.in_time c) (λ h l there k. omega arith) b k (b.context i).own
+      (hand_of b []) p r true true (switch.left_of c p' k) tt holds (suits_is b a r may) once tt never always (omega arith)

@@ -1,4 +1,5 @@
--- One step of a section of any table, as it stands on a board: what is left falls, where the loaded word is there after the step if it
+-- One step of a section of any table, as it stands on a board: what is left falls, where the loaded word is there after the
+-- step if it
 -- was before, or was just loaded.
 use Rattle.std.proofs.Common.{◌≡◌, ◌≢◌, ℕ, ◌+◌, ◌≤◌, Bool, true, false, refl, sym, ap, ◌∙◌, subst, arith, Option, Some, None}
 use Rattle.std.proofs.lemmas.Bool.{false≢true}
@@ -41,25 +42,41 @@ brought_fits b (asks.Acquire (lock.Thread n)) asks.Got = refl
 brought_fits b (asks.Acquire lock.Ready) asks.Got = refl
 brought_fits b a r = refl
 
-pub fall_by : {L : Type 0} (t : Table L) → IsReleasedInTime t → ((h : Hand) (l : L) (there : Bool) (k : Lock) → t.rest h true l k ≤ t.rest h there l k) →
-    (b : Board) (k : Lock) (own : StateWord) (h : Hand) (l : L) (r : Response) (there there' : Bool) (now : ℕ) → t.Fits h l → Holds k (t.locks l) →
-    suits_response (t.ask own l) r ≡ true → is_again r ≡ false → t.Allows (hand_came r (brought b (t.ask own l)) (t.hand h l r)) l r →
+pub fall_by : {L : Type 0} (t : Table L) → IsReleasedInTime t →
+    ((h : Hand) (l : L) (there : Bool) (k : Lock) → t.rest h true l k ≤ t.rest h there l k) →
+    (b : Board) (k : Lock) (own : StateWord) (h : Hand) (l : L) (r : Response) (there there' : Bool) (now : ℕ) → t.Fits h l →
+    Holds k (t.locks l) →
+    suits_response (t.ask own l) r ≡ true → is_again r ≡ false →
+    t.Allows (hand_came r (brought b (t.ask own l)) (t.hand h l r)) l r →
     (misses (t.seen l) (t.ask own l) r ≡ true → there ≡ false) → (there' ≡ false → there_after there r ≡ false) →
     now ≤ t.rest (hand_came r (brought b (t.ask own l)) (t.hand h l r)) there' (t.leads h l r) k → 1 + now ≤ t.rest h there l k
 fall_by t time above b k own h l r there there' now fits holds suits once allowed missed lasts within =
     let a = t.ask own l in
-    let made : IsMade t own h l r (brought b a) = record { suiting = suits; guarded = brought_fits b a r; made = once; allowed = allowed } in
+    let made : IsMade t own h l r (brought b a) = record {
+      suiting = suits;
+      guarded = brought_fits b a r;
+      made = once;
+      allowed = allowed;
+    } in
     go there' lasts within (time.falls k own h l r (brought b a) there fits holds made missed)
   where
-    go : (v : Bool) → (v ≡ false → there_after there r ≡ false) → now ≤ t.rest (hand_came r (brought b (t.ask own l)) (t.hand h l r)) v (t.leads h l r) k →
-        1 + t.rest (hand_came r (brought b (t.ask own l)) (t.hand h l r)) (there_after there r) (t.leads h l r) k ≤ t.rest h there l k → 1 + now ≤ t.rest h there l k
-    go true lasts within fall = let up = above (hand_came r (brought b (t.ask own l)) (t.hand h l r)) (t.leads h l r) (there_after there r) k in omega (arith, within, up, fall)
-    go false lasts within fall = let low = subst (λ (v : Bool). now ≤ t.rest (hand_came r (brought b (t.ask own l)) (t.hand h l r)) v (t.leads h l r) k) (sym (lasts refl)) within in omega (arith, low, fall)
+    go : (v : Bool) → (v ≡ false → there_after there r ≡ false) →
+        now ≤ t.rest (hand_came r (brought b (t.ask own l)) (t.hand h l r)) v (t.leads h l r) k →
+        1 + t.rest (hand_came r (brought b (t.ask own l)) (t.hand h l r)) (there_after there r) (t.leads h l r) k ≤
+        t.rest h there l k → 1 + now ≤ t.rest h there l k
+    go true lasts within fall =
+        let up = above (hand_came r (brought b (t.ask own l)) (t.hand h l r)) (t.leads h l r) (there_after there r) k in
+        omega (arith, within, up, fall)
+    go false lasts within fall =
+        let low = subst (λ (v : Bool). now ≤ t.rest (hand_came r (brought b (t.ask own l)) (t.hand h l r)) v (t.leads h l r) k)
+        (sym (lasts refl)) within in omega (arith, low, fall)
 
 -- what is left falls short of what is published, where the loaded word is there if that is taken for granted
-pub within_by : {L : Type 0} (t : Table L) → IsReleasedInTime t → ((h : Hand) (l : L) (there : Bool) (k : Lock) → t.rest h true l k ≤ t.rest h there l k) →
+pub within_by : {L : Type 0} (t : Table L) → IsReleasedInTime t →
+    ((h : Hand) (l : L) (there : Bool) (k : Lock) → t.rest h true l k ≤ t.rest h there l k) →
     (h : Hand) (l : L) (there : Bool) (k : Lock) → (t.stays l ≡ true → there ≡ true) → t.rest h there l k ≤ t.left h l k
-within_by t time above h l there k stays = subst (λ (x : ℕ). t.rest h there l k ≤ x) (sym (time.columns h l k)) (go there (t.stays l) stays)
+within_by t time above h l there k stays =
+    subst (λ (x : ℕ). t.rest h there l k ≤ x) (sym (time.columns h l k)) (go there (t.stays l) stays)
   where
     go : (v s : Bool) → (s ≡ true → v ≡ true) → t.rest h v l k ≤ t.rest h s l k
     go true s e = above h l s k
@@ -97,21 +114,30 @@ always e = absurd (false≢true (sym e))
 
 module _ (g : Programs) (s : ℕ → Seen) (at : Position) (point : Option Point) where
   -- it was just loaded
-  pub just_loaded : {A : Type 0} (n m : ℕ) (w : StateWord) → (s n).word ≡ w → is_there (wrote (noted g s at point) (asks.Load m) (asks.Word w)) (Some (record { number = n; word = w })) ≡ false → A
+  pub just_loaded : {A : Type 0} (n m : ℕ) (w : StateWord) → (s n).word ≡ w →
+      is_there (wrote (noted g s at point) (asks.Load m) (asks.Word w)) (Some (record { number = n; word = w })) ≡ false → A
   just_loaded n m w e q = absurd (false≢true (sym q ∙ same_where (noted g s at point n).word w (noted_word g s at point n ∙ e)))
 
   -- it stays, while a mail is written
-  pub stored_there : (n m : ℕ) (x : Message) (w : StateWord) → is_there (wrote (noted g s at point) (asks.Post m x) asks.Stored) (Some (record { number = n; word = w })) ≡ false → is_there s (Some (record { number = n; word = w })) ≡ false
-  stored_there n m x w q = ap (λ (v : StateWord). same_words v w) (sym (word_upd (noted g s at point) m _ refl n ∙ noted_word g s at point n)) ∙ q
+  pub stored_there : (n m : ℕ) (x : Message) (w : StateWord) →
+      is_there (wrote (noted g s at point) (asks.Post m x) asks.Stored) (Some (record { number = n; word = w })) ≡ false →
+      is_there s (Some (record { number = n; word = w })) ≡ false
+  stored_there n m x w q =
+      ap (λ (v : StateWord). same_words v w) (sym (word_upd (noted g s at point) m _ refl n ∙ noted_word g s at point n)) ∙ q
 
   -- and while another number's word is
-  pub won_there : (n m : ℕ) (old new : StateWord) (w : StateWord) → n ≢ m → is_there (wrote (noted g s at point) (asks.Exchange m old new) asks.Won) (Some (record { number = n; word = w })) ≡ false → is_there s (Some (record { number = n; word = w })) ≡ false
-  won_there n m old new w ne q = ap (λ (v : StateWord). same_words v w) (sym (ap (λ (v : Seen). v.word) (upd_other (noted g s at point) m (with_word (noted g s at point m) new) n ne) ∙ noted_word g s at point n)) ∙ q
+  pub won_there : (n m : ℕ) (old new : StateWord) (w : StateWord) → n ≢ m →
+      is_there (wrote (noted g s at point) (asks.Exchange m old new) asks.Won) (Some (record { number = n; word = w })) ≡ false →
+      is_there s (Some (record { number = n; word = w })) ≡ false
+  won_there n m old new w ne q =
+      ap (λ (v : StateWord). same_words v w) (sym (ap (λ (v : Seen). v.word)
+      (upd_other (noted g s at point) m (with_word (noted g s at point m) new) n ne) ∙ noted_word g s at point n)) ∙ q
 
 -- none was loaded
 pub unloaded : {A : Type 0} (s : ℕ → Seen) (l : Option LoadedWord) → l ≡ None → is_there s l ≡ false → A
 unloaded s l e q = absurd (false≢true (sym q ∙ ap (is_there s) e))
 
 -- an exchange is lost where the word isn't there
-pub lost_there : (s : ℕ → Seen) (n : ℕ) (v w : StateWord) → (s n).word ≡ v → v ≢ w → is_there s (Some (record { number = n; word = w })) ≡ false
+pub lost_there : (s : ℕ → Seen) (n : ℕ) (v w : StateWord) → (s n).word ≡ v → v ≢ w →
+    is_there s (Some (record { number = n; word = w })) ≡ false
 lost_there s n v w e ne = differ_where (s n).word w (λ q. ne (sym e ∙ q))

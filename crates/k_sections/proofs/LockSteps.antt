@@ -44,8 +44,11 @@ use Rattle.k_switch.specs.Switches.{SwitchAt}
 use Rattle.k_switch.specs.Switches as switch
 use Rattle.k_switch.proofs.SwitchRuns as switch_runs
 use Rattle.k_board.specs.Words.{Programs}
-use Rattle.k_board.specs.Boards.{At, Alone, InSend, InReceive, InCreate, InDestroy, InSwitch, Resting, Coming, Nowhere, Context, Board, hand_of, id_at}
-use Rattle.k_board.specs.Steps.{Answers, after, begun_at, create_at, create_context, create_contexts, destroy_at, destroy_context, destroy_contexts, destroy_number, receive_at, receive_context, send_at, send_context, switch_board}
+use Rattle.k_board.specs.Boards.{At, Alone, InSend, InReceive, InCreate, InDestroy, InSwitch}
+use Rattle.k_board.specs.Boards.{Resting, Coming, Nowhere, Context, Board, hand_of, id_at}
+use Rattle.k_board.specs.Steps.{Answers, after, begun_at, create_at, create_context, create_contexts}
+use Rattle.k_board.specs.Steps.{destroy_at, destroy_context, destroy_contexts, destroy_number}
+use Rattle.k_board.specs.Steps.{receive_at, receive_context, send_at, send_context, switch_board}
 use Rattle.k_good.specs.Locks.{locks_at}
 use Rattle.k_good.proofs.Owners.{IsThree, Named, Owns, suits_is}
 use Rattle.k_sections.specs.Situations.{want_at}
@@ -164,7 +167,8 @@ three_at (InSwitch c (switch.Returned s)) = three_of _ _ _
 three_at (InSwitch c (switch.Finished s)) = three_of _ _ _
 
 none_ranked : IsByRank (None ∷ None ∷ None ∷ [])
-none_ranked = (switch_runs.rises (record { goal = None; start = None; counted = false; slice_ended = false })).ranked switch.AcquireReady
+none_ranked =
+    (switch_runs.rises (record { goal = None; start = None; counted = false; slice_ended = false })).ranked switch.AcquireReady
 
 pub ranked_at : ThreadTables → (p : At) → IsByRank (locks_at p)
 ranked_at tables (Alone p) = none_ranked
@@ -192,7 +196,9 @@ pub record LockStep (b b' : Board) (i : ℕ) (p : At) : Type 0 where
 
 module _ (b : Board) (h : Named b) (i : ℕ) where
   -- one context moves, and no lock does
-  still_step : (x : Context) (p : At) → want_at (b.context i).own p ≡ None → locks_at p ≡ None ∷ None ∷ None ∷ [] → locks_at x.at ≡ None ∷ None ∷ None ∷ [] → (b' : Board) → b'.owner ≡ b.owner → b'.table ≡ b.table → b'.ready ≡ b.ready → ((n : ℕ) → b'.context n ≡ upd b.context i x n) → LockStep b b' i p
+  still_step : (x : Context) (p : At) → want_at (b.context i).own p ≡ None → locks_at p ≡ None ∷ None ∷ None ∷ [] →
+      locks_at x.at ≡ None ∷ None ∷ None ∷ [] → (b' : Board) → b'.owner ≡ b.owner → b'.table ≡ b.table → b'.ready ≡ b.ready →
+      ((n : ℕ) → b'.context n ≡ upd b.context i x n) → LockStep b b' i p
   still_step x p w e e' b' o t r ctx = record {
     ask = asks.Load 0;
     response = asks.Word (b.seen 0).word;
@@ -219,8 +225,10 @@ module _ (b : Board) (h : Named b) (i : ℕ) where
     onward = ap locks_at at;
   }
 
-  called_step : (g : Programs) (last : Option Reply) (n : Next) → LockStep b (called_board g b i last n) i (Alone (location.Between last))
-  called_step g last (next.Phase f) = still_step _ (Alone (location.Between last)) refl refl (begun_none b.size (id_at b i) f) _ refl refl refl (λ n. refl)
+  called_step : (g : Programs) (last : Option Reply) (n : Next) →
+      LockStep b (called_board g b i last n) i (Alone (location.Between last))
+  called_step g last (next.Phase f) =
+      still_step _ (Alone (location.Between last)) refl refl (begun_none b.size (id_at b i) f) _ refl refl refl (λ n. refl)
   called_step g last (next.Work count) = still_step _ (Alone (location.Between last)) refl refl refl _ refl refl refl (λ n. refl)
 
   alone_step : (g : Programs) (q : ThreadLocation) → (b.context i).at ≡ Alone q → LockStep b (alone_after g b i q) i (Alone q)
@@ -230,12 +238,16 @@ module _ (b : Board) (h : Named b) (i : ℕ) where
   alone_step g location.Dead at = no_step (Alone location.Dead) at refl
   alone_step g location.FallAsleep at = still_step _ (Alone location.FallAsleep) refl refl refl _ refl refl refl (λ n. refl)
   alone_step g location.LookAgain at = still_step _ (Alone location.LookAgain) refl refl refl _ refl refl refl (λ n. refl)
-  alone_step g (location.LoadMail from) at = still_step _ (Alone (location.LoadMail from)) refl refl refl _ refl refl refl (λ n. refl)
+  alone_step g (location.LoadMail from) at =
+      still_step _ (Alone (location.LoadMail from)) refl refl refl _ refl refl refl (λ n. refl)
   alone_step g (location.Work count) at = still_step _ (Alone (location.Work count)) refl refl refl _ refl refl refl (λ n. refl)
   alone_step g location.CommitEnd at = still_step _ (Alone location.CommitEnd) refl refl refl _ refl refl refl (λ n. refl)
 
   -- by the table of a section
-  table_step : {L : Type 0} (t : Table L) → IsRising t → (own : StateWord) (hand : Hand) (l : L) (p : At) → locks_at p ≡ t.locks l → want_at (b.context i).own p ≡ want_of (t.ask own l) → IsLast (t.ask own l) (t.locks l) → (b' : Board) → Owns b b' i (t.ask own l) (response_to b (t.ask own l)) → locks_at (b'.context i).at ≡ t.locks (t.leads hand l (response_to b (t.ask own l))) → LockStep b b' i p
+  table_step : {L : Type 0} (t : Table L) → IsRising t → (own : StateWord) (hand : Hand) (l : L) (p : At) →
+      locks_at p ≡ t.locks l → want_at (b.context i).own p ≡ want_of (t.ask own l) → IsLast (t.ask own l) (t.locks l) →
+      (b' : Board) → Owns b b' i (t.ask own l) (response_to b (t.ask own l)) →
+      locks_at (b'.context i).at ≡ t.locks (t.leads hand l (response_to b (t.ask own l))) → LockStep b b' i p
   table_step t rises own hand l p e w last b' owns onward =
       let a = t.ask own l in
       let may = response_may b h a in
@@ -248,11 +260,16 @@ module _ (b : Board) (h : Named b) (i : ℕ) where
         above = subst (IsAbove a) (sym e) (rises.rising own l);
         mine = subst (IsHeld a) (sym e) (rises.releasing own l);
         last = subst (IsLast a) (sym e) last;
-        onward = onward ∙ rises.held own hand l (response_to b a) (suits_is b a (response_to b a) may) ∙ ap (locks_after a (response_to b a)) (sym e);
+        onward =
+            onward ∙ rises.held own hand l (response_to b a) (suits_is b a (response_to b a) may)
+            ∙ ap (locks_after a (response_to b a)) (sym e);
       }
 
-  switch_asked : (c : SwitchCall) (p : SwitchAt) → LockStep b (switch_board b i (b.context i) c p (response_to b (switch.ask_of c p))) i (InSwitch c p)
-  switch_asked c p = table_step (switch.switch_table c) (switch_runs.rises c) (b.context i).own (hand_of b []) p (InSwitch c p) refl refl (switch_last c p) _ (refl, refl, refl) (ap (λ (y : Context). locks_at y.at) (upd_same b.context i _))
+  switch_asked : (c : SwitchCall) (p : SwitchAt) → LockStep b
+      (switch_board b i (b.context i) c p (response_to b (switch.ask_of c p))) i (InSwitch c p)
+  switch_asked c p =
+      table_step (switch.switch_table c) (switch_runs.rises c) (b.context i).own (hand_of b []) p (InSwitch c p) refl refl
+      (switch_last c p) _ (refl, refl, refl) (ap (λ (y : Context). locks_at y.at) (upd_same b.context i _))
 
   switch_step : (c : SwitchCall) (p : SwitchAt) → LockStep b (switch_after b i c p) i (InSwitch c p)
   switch_step c (switch.Finished s) = still_step _ (InSwitch c (switch.Finished s)) refl refl refl _ refl refl refl (λ n. refl)
@@ -260,32 +277,41 @@ module _ (b : Board) (h : Named b) (i : ℕ) where
   switch_step c (switch.Locked p) = switch_asked c (switch.Locked p)
   switch_step c (switch.Returned s) = switch_asked c (switch.Returned s)
 
-  pub lock_step : ThreadTables → (g : Programs) (calls : Board → ℕ → SwitchCall) (p : At) → (b.context i).at ≡ p → LockStep b (board_after g calls b i p) i p
+  pub lock_step : ThreadTables → (g : Programs) (calls : Board → ℕ → SwitchCall) (p : At) → (b.context i).at ≡ p →
+      LockStep b (board_after g calls b i p) i p
   lock_step tables g calls (Alone q) at = alone_step g q at
   lock_step tables g calls (InSend c q) at =
       let x = b.context i in
       let r = response_to b (send.ask_of c x.own q) in
       let hand = hand_of b (b.queue c.to.number) in
-      table_step (send.send_table c) (send_runs.rising c) x.own hand q (InSend c q) refl refl (send_last c x.own q) _ (refl, refl, refl)
-      (ap (λ (y : Context). locks_at y.at) (upd_same b.context i (send_context x c q r hand)) ∙ send_locks c (send.leads c hand q r))
+      table_step (send.send_table c) (send_runs.rising c) x.own hand q (InSend c q) refl refl (send_last c x.own q) _
+      (refl, refl, refl)
+      (ap (λ (y : Context). locks_at y.at) (upd_same b.context i (send_context x c q r hand))
+      ∙ send_locks c (send.leads c hand q r))
   lock_step tables g calls (InReceive c q) at =
       let x = b.context i in
       let r = response_to b (receive.ask_of c x.own q) in
       let hand = hand_of b (b.queue i) in
-      table_step (receive.receive_table c) (receive_runs.rising c) x.own hand q (InReceive c q) refl refl (receive_last c x.own q) _ (refl, refl, refl)
-      (ap (λ (y : Context). locks_at y.at) (upd_same b.context i (receive_context x c q r hand)) ∙ receive_locks c (receive.leads c hand q r))
+      table_step (receive.receive_table c) (receive_runs.rising c) x.own hand q (InReceive c q) refl refl
+      (receive_last c x.own q) _ (refl, refl, refl)
+      (ap (λ (y : Context). locks_at y.at) (upd_same b.context i (receive_context x c q r hand))
+      ∙ receive_locks c (receive.leads c hand q r))
   lock_step tables g calls (InCreate c q) at =
       let x = b.context i in
       let r = response_to b (create.ask_of c x.own q) in
       let hand = hand_of b [] in
-      table_step (create.create_table c) (tables.create_rises c) x.own hand q (InCreate c q) refl refl (create_last c x.own q) _ (refl, refl, refl)
-      (ap (λ (y : Context). locks_at y.at) (upd_same (create_contexts g c q r b.context) i (create_context x c q r hand)) ∙ create_locks c (create.leads c hand q r))
+      table_step (create.create_table c) (tables.create_rises c) x.own hand q (InCreate c q) refl refl (create_last c x.own q) _
+      (refl, refl, refl)
+      (ap (λ (y : Context). locks_at y.at) (upd_same (create_contexts g c q r b.context) i (create_context x c q r hand))
+      ∙ create_locks c (create.leads c hand q r))
   lock_step tables g calls (InDestroy c q) at =
       let x = b.context i in
       let r = response_to b (destroy.ask_of c x.own q) in
       let hand = hand_of b (b.queue (destroy_number c q)) in
-      table_step (destroy.destroy_table c) (tables.destroy_rises c) x.own hand q (InDestroy c q) refl refl (destroy_last c x.own q) _ (refl, refl, refl)
-      (ap (λ (y : Context). locks_at y.at) (upd_same (destroy_contexts c q r b.context) i (destroy_context x c q r hand)) ∙ destroy_locks c (destroy.leads c hand q r))
+      table_step (destroy.destroy_table c) (tables.destroy_rises c) x.own hand q (InDestroy c q) refl refl
+      (destroy_last c x.own q) _ (refl, refl, refl)
+      (ap (λ (y : Context). locks_at y.at) (upd_same (destroy_contexts c q r b.context) i (destroy_context x c q r hand))
+      ∙ destroy_locks c (destroy.leads c hand q r))
   lock_step tables g calls (InSwitch c q) at = switch_step c q
   lock_step tables g calls Resting at = still_step _ Resting refl refl refl _ refl refl refl (λ n. refl)
   lock_step tables g calls Coming at = no_step Coming at refl

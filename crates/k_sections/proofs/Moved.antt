@@ -25,8 +25,16 @@ pub data Moved (b b' : Board) (i : ℕ) (a : Ask) (l : Lock) : Type 0 where
   returned : a ≡ asks.Release l → owner_of b' l ≡ None → Moved b b' i a l
 
 moved_by : (b b' : Board) (i : ℕ) (a : Ask) (r : Response) → Moves b b' i a r → (l : Lock) → Moved b b' i a l
-moved_by b b' i (asks.Acquire m) asks.Got o l = elim (same_lock l m) [ inl e ↦ got (ap (λ (k : Lock). asks.Acquire k) (sym e)) (ap (owner_of b') e ∙ o.this) | inr ne ↦ unmoved (o.others l ne) ]
-moved_by b b' i (asks.Release m) asks.Released o l = elim (same_lock l m) [ inl e ↦ returned (ap (λ (k : Lock). asks.Release k) (sym e)) (ap (owner_of b') e ∙ o.this) | inr ne ↦ unmoved (o.others l ne) ]
+moved_by b b' i (asks.Acquire m) asks.Got o l =
+    elim (same_lock l m) [
+      | inl e ↦ got (ap (λ (k : Lock). asks.Acquire k) (sym e)) (ap (owner_of b') e ∙ o.this)
+      | inr ne ↦ unmoved (o.others l ne)
+    ]
+moved_by b b' i (asks.Release m) asks.Released o l =
+    elim (same_lock l m) [
+      | inl e ↦ returned (ap (λ (k : Lock). asks.Release k) (sym e)) (ap (owner_of b') e ∙ o.this)
+      | inr ne ↦ unmoved (o.others l ne)
+    ]
 moved_by b b' i a r o l = unmoved (o l)
 
 module _ (b b' : Board) (i : ℕ) (p : At) (st : LockStep b b' i p) where
@@ -34,7 +42,8 @@ module _ (b b' : Board) (i : ℕ) (p : At) (st : LockStep b b' i p) where
   moved l = moved_by b b' i st.ask st.response (owners_move b b' i st.ask st.response st.may st.owns) l
 
   -- what is released ranks above all that is still held
-  pub released_last : Named b → p ≡ (b.context i).at → (l : Lock) → owner_of b l ≡ Some i → owner_of b' l ≢ Some i → (m : Lock) → owner_of b' m ≡ Some i → rank_of m ≤ rank_of l
+  pub released_last : Named b → p ≡ (b.context i).at → (l : Lock) → owner_of b l ≡ Some i → owner_of b' l ≢ Some i → (m : Lock) →
+      owner_of b' m ≡ Some i → rank_of m ≤ rank_of l
   released_last h at l mine lost m kept = by_lock (moved l)
     where
       by_lock : Moved b b' i st.ask l → rank_of m ≤ rank_of l
@@ -43,7 +52,8 @@ module _ (b b' : Board) (i : ℕ) (p : At) (st : LockStep b b' i p) where
       by_lock (returned a e) = by_other a (moved m)
         where
           by_other : st.ask ≡ asks.Release l → Moved b b' i st.ask m → rank_of m ≤ rank_of l
-          by_other a (unmoved d) = st.last l m a (subst (λ (q : At). Holds m (locks_at q)) (sym at) (owned_held b h m i (sym d ∙ kept)))
+          by_other a (unmoved d) =
+              st.last l m a (subst (λ (q : At). Holds m (locks_at q)) (sym at) (owned_held b h m i (sym d ∙ kept)))
           by_other a (got c d) = absurd cc
           by_other a (returned c d) = absurd (none_some d kept)
 
@@ -99,7 +109,8 @@ module _ (b : Board) (h : Named b) (i : ℕ) where
       go _ (a_lock l) q = owns_some l (sym (holder_is b l) ∙ q)
       go _ (a_context n) q =
           let same = itself_is n (lowest_held (locks_at (b.context n).at)) i q in
-          λ e. itself_none (lowest_held (locks_at (b.context i).at)) e (subst (λ (k : ℕ). itself k (lowest_held (locks_at (b.context k).at)) ≡ Some i) same q)
+          λ e. itself_none (lowest_held (locks_at (b.context i).at)) e
+          (subst (λ (k : ℕ). itself k (lowest_held (locks_at (b.context k).at)) ≡ Some i) same q)
 
   -- and holds up its own removal
   pub holds_itself : lowest_held (locks_at (b.context i).at) ≢ None → holder_of b (asks.Context i) ≡ Some i

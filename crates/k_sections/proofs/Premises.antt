@@ -2,7 +2,8 @@
 use Rattle.std.proofs.Common.{◌≡◌, ℕ, refl, sym, subst}
 use Rattle.k_board.specs.Words.{Programs}
 use Rattle.k_board.specs.Boards.{Board}
-use Rattle.k_board.specs.Turns.{Turn, sends, receives, creates, destroys, goes_alone, begins, turns_to_work, wakes, switches, begins_switch, ends_switch}
+use Rattle.k_board.specs.Turns.{Turn, sends, receives, creates, destroys, goes_alone, begins}
+use Rattle.k_board.specs.Turns.{turns_to_work, wakes, switches, begins_switch, ends_switch}
 use Rattle.k_good.specs.Ranges.{NamesFit}
 use Rattle.k_good.proofs.Goods.{good_keeps, supports}
 use Rattle.k_good.proofs.RangesKeep.{within_keeps}

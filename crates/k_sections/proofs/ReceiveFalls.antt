@@ -24,10 +24,14 @@ use Rattle.k_ipc.specs.declared.receive.ReceiveCall.{ReceiveCall}
 use Rattle.k_ipc.specs.declared.receive.ReceiveOutside.{ReceiveOutside}
 use Rattle.k_ipc.specs.declared.receive.ReceiveOutside.TheVariants.{LoadCaller, AcquireOwn, Ended}
 use Rattle.k_ipc.specs.declared.receive.ReceiveLocked.{ReceiveLocked}
-use Rattle.k_ipc.specs.declared.receive.ReceiveLocked.TheVariants.{LoadOwn, LoadSender, FreeSender, AcquireReady, CommitWait, LoadPartner, CommitGone, LoadPicking, LoadNext, FreeNext, EndPick, SettlePick, Release}
+use Rattle.k_ipc.specs.declared.receive.ReceiveLocked.TheVariants.{LoadOwn, LoadSender, FreeSender, AcquireReady}
+use Rattle.k_ipc.specs.declared.receive.ReceiveLocked.TheVariants.{CommitWait, LoadPartner, CommitGone, LoadPicking}
+use Rattle.k_ipc.specs.declared.receive.ReceiveLocked.TheVariants.{LoadNext, FreeNext, EndPick, SettlePick, Release}
 use Rattle.k_ipc.specs.declared.receive.ReceiveRelease.TheVariants as release
 use Rattle.k_ipc.specs.declared.receive.ReceivePushing.TheVariants.{LoadFreed, PushFreed}
-use Rattle.k_ipc.specs.ReceiveTable.{IsAllowed, IsCounted, ReceiveAt, Outside, Locked, Pushing, after_free, after_wait, ask_of, hand_after, leads, left_of, locks_of, none_left, picking_by, points, receive_table, released_end, rest_of, rest_thread, seen_of, stays_out, still_waits, try_next, try_sender}
+use Rattle.k_ipc.specs.ReceiveTable.{IsAllowed, IsCounted, ReceiveAt, Outside, Locked, Pushing, after_free, after_wait, ask_of}
+use Rattle.k_ipc.specs.ReceiveTable.{hand_after, leads, left_of, locks_of, none_left, picking_by, points, receive_table}
+use Rattle.k_ipc.specs.ReceiveTable.{released_end, rest_of, rest_thread, seen_of, stays_out, still_waits, try_next, try_sender}
 use Rattle.k_ipc.proofs.ReceiveRuns.{in_time}
 use Rattle.k_board.specs.Words.{Programs, Seen, noted}
 use Rattle.k_board.specs.Boards.{InReceive, Context, Board, hand_of}
@@ -79,14 +83,19 @@ none_after : (from : Option ThreadId) → loaded_receive (Locked (after_wait fro
 none_after None = refl
 none_after (Some from) = refl
 
-none_owned : (c : ReceiveCall) (o : Option SenderEntry) (w : StateWord) → loaded_receive (Locked (if is_dead w then Release release.Dead else try_sender c o)) ≡ None
-none_owned c o w = cond_both (is_dead w) _ _ (λ (q : ReceiveLocked). loaded_receive (Locked q) ≡ None) (λ _. refl) (λ _. none_tried c o)
+none_owned : (c : ReceiveCall) (o : Option SenderEntry) (w : StateWord) →
+    loaded_receive (Locked (if is_dead w then Release release.Dead else try_sender c o)) ≡ None
+none_owned c o w =
+    cond_both (is_dead w) _ _ (λ (q : ReceiveLocked). loaded_receive (Locked q) ≡ None) (λ _. refl) (λ _. none_tried c o)
 
-none_partner : (from : ThreadId) (w : StateWord) → loaded_receive (Locked (if is_present_in w from then Release release.Waits else CommitGone from)) ≡ None
-none_partner from w = cond_both (is_present_in w from) _ _ (λ (q : ReceiveLocked). loaded_receive (Locked q) ≡ None) (λ _. refl) (λ _. refl)
+none_partner : (from : ThreadId) (w : StateWord) → loaded_receive
+    (Locked (if is_present_in w from then Release release.Waits else CommitGone from)) ≡ None
+none_partner from w =
+    cond_both (is_present_in w from) _ _ (λ (q : ReceiveLocked). loaded_receive (Locked q) ≡ None) (λ _. refl) (λ _. refl)
 
 -- outside of its lock nothing is left
-outside_rest : (c : ReceiveCall) (h h' : Hand) (there : Bool) (w : ReceiveOutside) (k : Lock) → rest_of c h there (Outside w) k ≡ rest_of c h' there (Outside w) k
+outside_rest : (c : ReceiveCall) (h h' : Hand) (there : Bool) (w : ReceiveOutside) (k : Lock) →
+    rest_of c h there (Outside w) k ≡ rest_of c h' there (Outside w) k
 outside_rest c h h' there w (lock.Thread n) = refl
 outside_rest c h h' there w lock.Table = refl
 outside_rest c h h' there w lock.Ready = refl
@@ -101,12 +110,17 @@ module _ (g : Programs) (b : Board) (c : ReceiveCall) where
   abbrev pub point : ReceiveAt → Response → Option Point
   point p r = points c (b.seen c.caller.number).word hand p r
 
-  -- What a step does to the loaded word; what it tells of it; what isn't so is never answered; and what is left by what is in hand after it.
+  -- What a step does to the loaded word; what it tells of it; what isn't so is never answered; and what is left by what is in
+  -- hand after it.
   abbrev Tells : ReceiveAt → Response → Type 0
-  Tells p r = (is_there (wrote (noted g b.seen x.position (point p r)) (ask_of c x.own p) r) (loaded_receive (leads c hand p r)) ≡ false → there_after (is_there b.seen (loaded_receive p)) r ≡ false) ×
+  Tells p r =
+      (is_there (wrote (noted g b.seen x.position (point p r)) (ask_of c x.own p) r) (loaded_receive (leads c hand p r)) ≡ false →
+      there_after (is_there b.seen (loaded_receive p)) r ≡ false) ×
       (misses (seen_of p) (ask_of c x.own p) r ≡ true → is_there b.seen (loaded_receive p) ≡ false) ×
       IsAllowed (hand_came r (brought b (ask_of c x.own p)) (hand_after c hand p r)) p r ×
-      ((there : Bool) (k : Lock) → rest_of c (hand_of (receive_board g b c.caller.number x c p r) ((receive_board g b c.caller.number x c p r).queue c.caller.number)) there (leads c hand p r) k ≡ rest_of c (hand_came r (brought b (ask_of c x.own p)) (hand_after c hand p r)) there (leads c hand p r) k)
+      ((there : Bool) (k : Lock) → rest_of c (hand_of (receive_board g b c.caller.number x c p r)
+      ((receive_board g b c.caller.number x c p r).queue c.caller.number)) there (leads c hand p r) k ≡
+      rest_of c (hand_came r (brought b (ask_of c x.own p)) (hand_after c hand p r)) there (leads c hand p r) k)
 
   abbrev now : ReceiveAt → Response → ℕ → Seen
   now p r = wrote (noted g b.seen x.position (point p r)) (ask_of c x.own p) r
@@ -114,51 +128,89 @@ module _ (g : Programs) (b : Board) (c : ReceiveCall) where
   abbrev Told : ReceiveAt → Response → Type 0
   Told p r = Answers b (ask_of c x.own p) r → Tells p r
 
-  kept_word : {A : Type 0} (v : StateWord) → (b.seen c.caller.number).word ≡ x.own → (b.seen c.caller.number).word ≡ v → v ≢ x.own → A
+  kept_word : {A : Type 0} (v : StateWord) → (b.seen c.caller.number).word ≡ x.own → (b.seen c.caller.number).word ≡ v →
+      v ≢ x.own → A
   kept_word v own e ne = absurd (ne (sym e ∙ own))
 
-  sender_loaded : (e : SenderEntry) (w : StateWord) (other : ReceiveLocked) → (b.seen (number_of e)).word ≡ w → loaded_receive (Locked other) ≡ None → (at : Option Point) {A : Type 0} → is_there (wrote (noted g b.seen x.position at) (asks.Load (number_of e)) (asks.Word w)) (loaded_receive (Locked (if still_waits c e w then FreeSender e w else other))) ≡ false → A
+  sender_loaded : (e : SenderEntry) (w : StateWord) (other : ReceiveLocked) → (b.seen (number_of e)).word ≡ w →
+      loaded_receive (Locked other) ≡ None → (at : Option Point) {A : Type 0} →
+      is_there (wrote (noted g b.seen x.position at) (asks.Load (number_of e)) (asks.Word w))
+      (loaded_receive (Locked (if still_waits c e w then FreeSender e w else other))) ≡ false → A
   sender_loaded e w other an none at {A} =
       let now = wrote (noted g b.seen x.position at) (asks.Load (number_of e)) (asks.Word w) in
       cond_both (still_waits c e w) _ _ (λ (q : ReceiveLocked). is_there now (loaded_receive (Locked q)) ≡ false → A)
-      (λ _. just_loaded g b.seen x.position at (number_of e) (number_of e) w an) (λ _. unloaded now (loaded_receive (Locked other)) none)
+      (λ _. just_loaded g b.seen x.position at (number_of e) (number_of e) w an)
+      (λ _. unloaded now (loaded_receive (Locked other)) none)
 
-  next_loaded : (e : SenderEntry) (w : StateWord) (other : ReceiveLocked) → (b.seen (number_of e)).word ≡ w → loaded_receive (Locked other) ≡ None → (at : Option Point) {A : Type 0} → is_there (wrote (noted g b.seen x.position at) (asks.Load (number_of e)) (asks.Word w)) (loaded_receive (Locked (if still_waits c e w then FreeNext e w else other))) ≡ false → A
+  next_loaded : (e : SenderEntry) (w : StateWord) (other : ReceiveLocked) → (b.seen (number_of e)).word ≡ w →
+      loaded_receive (Locked other) ≡ None → (at : Option Point) {A : Type 0} →
+      is_there (wrote (noted g b.seen x.position at) (asks.Load (number_of e)) (asks.Word w))
+      (loaded_receive (Locked (if still_waits c e w then FreeNext e w else other))) ≡ false → A
   next_loaded e w other an none at {A} =
       let now = wrote (noted g b.seen x.position at) (asks.Load (number_of e)) (asks.Word w) in
       cond_both (still_waits c e w) _ _ (λ (q : ReceiveLocked). is_there now (loaded_receive (Locked q)) ≡ false → A)
-      (λ _. just_loaded g b.seen x.position at (number_of e) (number_of e) w an) (λ _. unloaded now (loaded_receive (Locked other)) none)
+      (λ _. just_loaded g b.seen x.position at (number_of e) (number_of e) w an)
+      (λ _. unloaded now (loaded_receive (Locked other)) none)
 
   taken_hand : SenderEntry → Hand
-  taken_hand e = let b' = receive_board g b c.caller.number x c (Locked (Release (release.Taken e))) asks.Released in hand_of b' (b'.queue c.caller.number)
+  taken_hand e =
+      let b' = receive_board g b c.caller.number x c (Locked (Release (release.Taken e))) asks.Released in
+      hand_of b' (b'.queue c.caller.number)
 
-  receive_tells : (p : ReceiveAt) → IsOnceEach (b.queue c.caller.number) → AllSay g b c.caller.number x (facts_receive c p) → Each (ask_of c x.own p) (Told p)
+  receive_tells : (p : ReceiveAt) → IsOnceEach (b.queue c.caller.number) → AllSay g b c.caller.number x (facts_receive c p) →
+      Each (ask_of c x.own p) (Told p)
   receive_tells (Outside LoadCaller) once f = λ w an. (always, never, tt, λ t k. refl)
-  receive_tells (Outside AcquireOwn) once f = λ an. (unloaded (now (Outside AcquireOwn) asks.Got) _ (first_loaded c.picks), never, once, λ t k. refl)
+  receive_tells (Outside AcquireOwn) once f =
+      λ an. (unloaded (now (Outside AcquireOwn) asks.Got) _ (first_loaded c.picks), never, once, λ t k. refl)
     where
       first_loaded : (picks : Bool) → loaded_receive (Locked (if picks then LoadPicking else LoadOwn)) ≡ None
       first_loaded true = refl
       first_loaded false = refl
   receive_tells (Outside (Ended w)) once f = λ v an. (always, never, tt, λ t k. refl)
-  receive_tells (Locked LoadOwn) once f = λ w an. (unloaded (now (Locked LoadOwn) (asks.Word w)) _ (none_owned c _ w), never, tt, λ t k. refl)
-  receive_tells (Locked (LoadSender e)) once f = λ w an. (sender_loaded e w _ an (none_tried c _) (point (Locked (LoadSender e)) (asks.Word w)), never, tt, λ t k. refl)
-  receive_tells (Locked (FreeSender e w)) once f =
-      ((λ an. (unloaded (now (Locked (FreeSender e w)) asks.Won) _ (none_freed e w), never, tt, λ t k. refl)), (λ v an. (always, (λ q. lost_there b.seen (number_of e) v w an.0 an.1), tt, λ t k. refl)))
+  receive_tells (Locked LoadOwn) once f =
+      λ w an. (unloaded (now (Locked LoadOwn) (asks.Word w)) _ (none_owned c _ w), never, tt, λ t k. refl)
+  receive_tells (Locked (LoadSender e)) once f =
+      λ w an. (sender_loaded e w _ an (none_tried c _) (point (Locked (LoadSender e)) (asks.Word w)), never, tt, λ t k. refl)
+  receive_tells (Locked (FreeSender e w)) once f = (
+    (λ an. (unloaded (now (Locked (FreeSender e w)) asks.Won) _ (none_freed e w), never, tt, λ t k. refl)),
+    (λ v an. (always, (λ q. lost_there b.seen (number_of e) v w an.0 an.1), tt, λ t k. refl)),
+  )
   receive_tells (Locked (AcquireReady e)) once f = λ an. (always, never, tt, λ t k. refl)
-  receive_tells (Locked CommitWait) once f =
-      ((λ an. (unloaded (now (Locked CommitWait) asks.Won) _ (none_after c.from), never, refl, λ t k. refl)), (λ v an. kept_word v f.1.1.1.1.1.0.1 an.0 an.1))
-  receive_tells (Locked (LoadPartner from)) once f = λ w an. (unloaded (now (Locked (LoadPartner from)) (asks.Word w)) _ (none_partner from w), never, tt, λ t k. refl)
+  receive_tells (Locked CommitWait) once f = (
+    (λ an. (unloaded (now (Locked CommitWait) asks.Won) _ (none_after c.from), never, refl, λ t k. refl)),
+    (λ v an. kept_word v f.1.1.1.1.1.0.1 an.0 an.1),
+  )
+  receive_tells (Locked (LoadPartner from)) once f =
+      λ w an. (unloaded (now (Locked (LoadPartner from)) (asks.Word w)) _ (none_partner from w), never, tt, λ t k. refl)
   receive_tells (Locked (CommitGone from)) once f =
       ((λ an. (always, never, refl, λ t k. refl)), (λ v an. kept_word v f.1.1.1.0.1 an.0 an.1))
-  receive_tells (Locked LoadPicking) once f = λ w an. (unloaded (now (Locked LoadPicking) (asks.Word w)) _ (none_picked _ w.state), never, tt, λ t k. refl)
-  receive_tells (Locked (LoadNext e)) once f = λ w an. (next_loaded e w _ an (none_next _) (point (Locked (LoadNext e)) (asks.Word w)), never, tt, λ t k. refl)
-  receive_tells (Locked (FreeNext e w)) once f =
-      ((λ an. (always, never, tt, λ t k. refl)), (λ v an. (always, (λ q. lost_there b.seen (number_of e) v w an.0 an.1), tt, λ t k. refl)))
-  receive_tells (Locked (EndPick e w)) once f =
-      ((λ an. (unloaded (now (Locked (EndPick e w)) asks.Won) _ (none_freed e w), never, refl, λ t k. refl)), (λ v an. kept_word v f.1.1.1.1.0.1 an.0 an.1))
+  receive_tells (Locked LoadPicking) once f =
+      λ w an. (unloaded (now (Locked LoadPicking) (asks.Word w)) _ (none_picked _ w.state), never, tt, λ t k. refl)
+  receive_tells (Locked (LoadNext e)) once f =
+      λ w an. (next_loaded e w _ an (none_next _) (point (Locked (LoadNext e)) (asks.Word w)), never, tt, λ t k. refl)
+  receive_tells (Locked (FreeNext e w)) once f = (
+    (λ an. (always, never, tt, λ t k. refl)),
+    (λ v an. (
+      always,
+      (λ q. lost_there b.seen (number_of e) v w an.0 an.1),
+      tt,
+      λ t k. refl,
+    )),
+  )
+  receive_tells (Locked (EndPick e w)) once f = (
+    (λ an. (unloaded (now (Locked (EndPick e w)) asks.Won) _ (none_freed e w), never, refl, λ t k. refl)),
+    (λ v an. kept_word v f.1.1.1.1.0.1 an.0 an.1),
+  )
   receive_tells (Locked SettlePick) once f =
       ((λ an. (always, never, refl, λ t k. refl)), (λ v an. kept_word v f.1.1.1.1.0.1 an.0 an.1))
-  receive_tells (Locked (Release (release.Taken e))) once f = λ an. (always, never, tt, λ t k. outside_rest c (taken_hand e) (hand_after c hand (Locked (Release (release.Taken e))) asks.Released) t (Ended (released_end (release.Taken e))) k)
+  receive_tells (Locked (Release (release.Taken e))) once f =
+      λ an. (
+        always,
+        never,
+        tt,
+        λ t k. outside_rest c (taken_hand e)
+            (hand_after c hand (Locked (Release (release.Taken e))) asks.Released) t (Ended (released_end (release.Taken e))) k,
+      )
   receive_tells (Locked (Release release.Waits)) once f = λ an. (always, never, tt, λ t k. refl)
   receive_tells (Locked (Release release.Delivered)) once f = λ an. (always, never, tt, λ t k. refl)
   receive_tells (Locked (Release release.Gone)) once f = λ an. (always, never, tt, λ t k. refl)
@@ -167,7 +219,8 @@ module _ (g : Programs) (b : Board) (c : ReceiveCall) where
   receive_tells (Pushing (LoadFreed e)) once f = λ w an. (always, never, tt, λ t k. refl)
   receive_tells (Pushing (PushFreed e w)) once f = λ an. (always, never, tt, λ t k. refl)
 
-  counted_at : (p : ReceiveAt) → IsOnceEach (b.queue c.caller.number) → AllSay g b c.caller.number x (facts_receive c p) → IsCounted c hand p
+  counted_at : (p : ReceiveAt) → IsOnceEach (b.queue c.caller.number) → AllSay g b c.caller.number x (facts_receive c p) →
+      IsCounted c hand p
   counted_at (Outside p) once f = tt
   counted_at (Pushing p) once f = once
   counted_at (Locked LoadOwn) once f = (once, tt)
@@ -184,14 +237,18 @@ module _ (g : Programs) (b : Board) (c : ReceiveCall) where
   counted_at (Locked SettlePick) once f = (once, tt)
   counted_at (Locked (Release r)) once f = (once, tt)
 
-  got_rest : (b' : Board) (p : ReceiveAt) (k : Lock) → rest_at b' c.caller.number (receive_at c p) k ≤ rest_of c (hand_of b' (b'.queue c.caller.number)) (is_there b'.seen (loaded_receive p)) p k
+  got_rest : (b' : Board) (p : ReceiveAt) (k : Lock) → rest_at b' c.caller.number (receive_at c p) k ≤
+      rest_of c (hand_of b' (b'.queue c.caller.number)) (is_there b'.seen (loaded_receive p)) p k
   got_rest b' (Outside (Ended w)) k = let e = ended_rest b' c.caller.number c.caller w k in omega (arith, e)
   got_rest b' (Outside LoadCaller) k = omega arith
   got_rest b' (Outside AcquireOwn) k = omega arith
   got_rest b' (Locked p) k = omega arith
   got_rest b' (Pushing p) k = omega arith
 
-  pub receive_falls : (p : ReceiveAt) → IsOnceEach (b.queue c.caller.number) → AllSay g b c.caller.number x (facts_receive c p) → (k : Lock) → Holds k (locks_of c p) → (r : Response) → Answers b (ask_of c x.own p) r → is_again r ≡ false → 1 + rest_at (receive_board g b c.caller.number x c p r) c.caller.number (receive_at c (leads c hand p r)) k ≤ rest_at b c.caller.number (InReceive c p) k
+  pub receive_falls : (p : ReceiveAt) → IsOnceEach (b.queue c.caller.number) → AllSay g b c.caller.number x (facts_receive c p) →
+      (k : Lock) → Holds k (locks_of c p) → (r : Response) → Answers b (ask_of c x.own p) r → is_again r ≡ false →
+      1 + rest_at (receive_board g b c.caller.number x c p r) c.caller.number (receive_at c (leads c hand p r)) k ≤
+      rest_at b c.caller.number (InReceive c p) k
   receive_falls p each f k holds r may once =
       let a = ask_of c x.own p in
       let b' = receive_board g b c.caller.number x c p r in
@@ -199,7 +256,8 @@ module _ (g : Programs) (b : Board) (c : ReceiveCall) where
       let suits = suits_is b a r may in
       let told = made_by a r (Told p) suits once (receive_tells p each f) may in
       let there' = is_there b'.seen (loaded_receive p') in
-      fall_by (receive_table c) (in_time c) (rest_above c) b k x.own hand p r (is_there b.seen (loaded_receive p)) there' (rest_at b' c.caller.number (receive_at c p') k) (counted_at p each f) holds suits once told.2 told.1 told.0
+      fall_by (receive_table c) (in_time c) (rest_above c) b k x.own hand p r (is_there b.seen (loaded_receive p)) there'
+      (rest_at b' c.caller.number (receive_at c p') k) (counted_at p each f) holds suits once told.2 told.1 told.0
       (subst (λ (n : ℕ). rest_at b' c.caller.number (receive_at c p') k ≤ n) (told.3 there' k) (got_rest b' p' k))
 
   pub receive_within : (p : ReceiveAt) (k : Lock) → rest_at b c.caller.number (InReceive c p) k ≤ left_of c hand p k

@@ -22,7 +22,9 @@ same_length (e ∷ es) = let l = same_length es in omega (arith, l)
 none_stands : (n : ℕ) (es : List SenderEntry) → stands n es ≡ false → AllByRecursion (λ y. eqb n y ≡ false) (numbers es)
 unfolding numbers
 none_stands n [] e = tt
-none_stands n (x ∷ es) e = let here : eqb n (number_of x) ≡ false = grind (arith, nat_tests, e) in let later : stands n es ≡ false = grind (arith, nat_tests, e) in (here, none_stands n es later)
+none_stands n (x ∷ es) e =
+    let here : eqb n (number_of x) ≡ false = grind (arith, nat_tests, e) in
+    let later : stands n es ≡ false = grind (arith, nat_tests, e) in (here, none_stands n es later)
 
 apart : (es : List SenderEntry) → IsOnceEach es → IsDistinct eqb (numbers es)
 unfolding numbers IsDistinct
@@ -37,9 +39,11 @@ stands_there q (x ∷ es) e = elim (or_true (eqb q (number_of x)) (list_any (eqb
   | inr i ↦ let s = stands_there q es i in grind (arith, nat_tests, s)
 ]
 
-pub short_queue : (size t : ℕ) (es : List SenderEntry) → t < size → IsOnceEach es → ((n : ℕ) → stands n es ≡ true → (n < size) × (n ≢ t)) → length es < size
+pub short_queue : (size t : ℕ) (es : List SenderEntry) → t < size → IsOnceEach es →
+    ((n : ℕ) → stands n es ≡ true → (n < size) × (n ≢ t)) → length es < size
 short_queue size t es inside once entered =
-    let l = length-le_from_distinct_below (t ∷ numbers es) size (IsDistinct-cons eqb t (numbers es) (none_stands t es outward) (apart es once)) below in
+    let l = length-le_from_distinct_below (t ∷ numbers es) size
+    (IsDistinct-cons eqb t (numbers es) (none_stands t es outward) (apart es once)) below in
     let m = same_length es in
     omega (arith, l, m)
   where

@@ -13,5 +13,6 @@ pub record ThreadTables : Type 0 where
   pub destroy_in_time : (c : DestroyCall) → c.who.number < c.count → IsReleasedInTime (destroy_table c)
 
 pub thread_tables : ((c : CreateCall) → IsRising (create_table c)) → ((c : DestroyCall) → IsRising (destroy_table c)) →
-    ((c : CreateCall) → IsReleasedInTime (create_table c)) → ((c : DestroyCall) → c.who.number < c.count → IsReleasedInTime (destroy_table c)) → ThreadTables
+    ((c : CreateCall) → IsReleasedInTime (create_table c)) →
+    ((c : DestroyCall) → c.who.number < c.count → IsReleasedInTime (destroy_table c)) → ThreadTables
 thread_tables r s t u = record { create_rises = r; destroy_rises = s; create_in_time = t; destroy_in_time = u }

@@ -1,4 +1,5 @@
--- The next step of a context is a turn of the board. Each turn is its next step, but for a removal that waits for a carrier, and for the
+-- The next step of a context is a turn of the board. Each turn is its next step, but for a removal that waits for a carrier,
+-- and for the
 -- call that begins a switch.
 use Rattle.std.proofs.Common.{◌≡◌, ℕ, true, refl, ◌⊎◌, inl, inr, Option, ◌≢◌, Bool, false, sym, ap, ◌∙◌, subst, Some, None}
 use Rattle.k_ids.specs.declared.calls.Reply.{Reply}
@@ -15,11 +16,14 @@ use Rattle.k_switch.specs.declared.switch.SwitchCall.{SwitchCall}
 use Rattle.k_switch.specs.Switches.{SwitchAt}
 use Rattle.k_switch.specs.Switches as switch
 use Rattle.k_board.specs.Words.{Programs}
-use Rattle.k_board.specs.Boards.{At, Alone, InSend, InReceive, InCreate, InDestroy, InSwitch, Resting, Coming, Nowhere, Board, id_at, owner_of}
+use Rattle.k_board.specs.Boards.{At, Alone, InSend, InReceive, InCreate, InDestroy, InSwitch}
+use Rattle.k_board.specs.Boards.{Resting, Coming, Nowhere, Board, id_at, owner_of}
 use Rattle.k_board.specs.Steps.{alone_board, switch_board, Answers, create_board, destroy_board, receive_board, send_board}
-use Rattle.k_board.specs.Turns.{Turn, is_going, sends, receives, creates, destroys, goes_alone, begins, turns_to_work, wakes, switches, begins_switch, ends_switch}
+use Rattle.k_board.specs.Turns.{Turn, is_going, sends, receives, creates, destroys, goes_alone}
+use Rattle.k_board.specs.Turns.{begins, turns_to_work, wakes, switches, begins_switch, ends_switch}
 use Rattle.k_good.proofs.Owners.{Named}
-use Rattle.k_sections.specs.Stepping.{IsStill, has_ended, is_coming, has_died, is_nowhere, alone_after, board_after, called_board, response_to, switch_after, IsStep, acquired, removed_by}
+use Rattle.k_sections.specs.Stepping.{IsStill, has_ended, is_coming, has_died, is_nowhere, alone_after, board_after}
+use Rattle.k_sections.specs.Stepping.{called_board, response_to, switch_after, IsStep, acquired, removed_by}
 use Rattle.k_sections.proofs.Answered.{response_may, held_owned}
 use Rattle.std.specs.Prelude.{if◌then◌else◌}
 use Rattle.std.proofs.lemmas.Bool.{false≢true}
@@ -39,7 +43,8 @@ use Rattle.k_sections.proofs.Wanted.{create_wants, receive_wants, removes_at, se
 use Rattle.k_sections.proofs.Words.{differ_where, same_where}
 
 module _ (g : Programs) (b : Board) (h : Named b) (i : ℕ) where
-  call_turns : (last : Option Reply) (n : Next) → (b.context i).at ≡ Alone (location.Between last) → g.next (b.context i).position last ≡ n → Turn g b i (called_board g b i last n)
+  call_turns : (last : Option Reply) (n : Next) → (b.context i).at ≡ Alone (location.Between last) →
+      g.next (b.context i).position last ≡ n → Turn g b i (called_board g b i last n)
   call_turns last (next.Phase f) at e = begins last f at e
   call_turns last (next.Work count) at e = turns_to_work last count at e
 
@@ -72,18 +77,24 @@ module _ (g : Programs) (b : Board) (h : Named b) (i : ℕ) where
   switch_turns c (switch.Locked p) at = switch_asked c (switch.Locked p) at refl
   switch_turns c (switch.Returned s) at = switch_asked c (switch.Returned s) at refl
 
-  turns_at : (calls : Board → ℕ → SwitchCall) (p : At) → (b.context i).at ≡ p → (Turn g b i (board_after g calls b i p)) ⊎ IsStill p
+  turns_at : (calls : Board → ℕ → SwitchCall) (p : At) → (b.context i).at ≡ p →
+      (Turn g b i (board_after g calls b i p)) ⊎ IsStill p
   turns_at calls (Alone q) at = alone_turns q at
-  turns_at calls (InSend c q) at = let a = send.ask_of c (b.context i).own q in inl (sends c q (response_to b a) at (response_may b h a))
-  turns_at calls (InReceive c q) at = let a = receive.ask_of c (b.context i).own q in inl (receives c q (response_to b a) at (response_may b h a))
-  turns_at calls (InCreate c q) at = let a = create.ask_of c (b.context i).own q in inl (creates c q (response_to b a) at (response_may b h a))
-  turns_at calls (InDestroy c q) at = let a = destroy.ask_of c (b.context i).own q in inl (destroys c q (response_to b a) at (response_may b h a))
+  turns_at calls (InSend c q) at =
+      let a = send.ask_of c (b.context i).own q in inl (sends c q (response_to b a) at (response_may b h a))
+  turns_at calls (InReceive c q) at =
+      let a = receive.ask_of c (b.context i).own q in inl (receives c q (response_to b a) at (response_may b h a))
+  turns_at calls (InCreate c q) at =
+      let a = create.ask_of c (b.context i).own q in inl (creates c q (response_to b a) at (response_may b h a))
+  turns_at calls (InDestroy c q) at =
+      let a = destroy.ask_of c (b.context i).own q in inl (destroys c q (response_to b a) at (response_may b h a))
   turns_at calls (InSwitch c q) at = inl (switch_turns c q at)
   turns_at calls Resting at = inl (begins_switch (calls b i) at)
   turns_at calls Coming at = inr is_coming
   turns_at calls Nowhere at = inr is_nowhere
 
-  pub step_turns : (calls : Board → ℕ → SwitchCall) → (Turn g b i (board_after g calls b i (b.context i).at)) ⊎ IsStill (b.context i).at
+  pub step_turns : (calls : Board → ℕ → SwitchCall) → (Turn g b i (board_after g calls b i (b.context i).at)) ⊎
+      IsStill (b.context i).at
   step_turns calls = turns_at calls (b.context i).at refl
 
 -- EACH TURN IS THE NEXT STEP
@@ -93,20 +104,27 @@ record KeptWant (a : Ask) : Type 0 where
   wants : want_of a ≡ Some (asks.Context number)
 
 module _ (tables : ThreadTables) (b : Board) (h : Named b) where
-  exchanged_is : (n : ℕ) (old : StateWord) (r : Response) (t : Bool) → same_words (b.seen n).word old ≡ t → r ≡ (if t then asks.Won else asks.Lost (b.seen n).word) → r ≡ (if same_words (b.seen n).word old then asks.Won else asks.Lost (b.seen n).word)
+  exchanged_is : (n : ℕ) (old : StateWord) (r : Response) (t : Bool) → same_words (b.seen n).word old ≡ t →
+      r ≡ (if t then asks.Won else asks.Lost (b.seen n).word) →
+      r ≡ (if same_words (b.seen n).word old then asks.Won else asks.Lost (b.seen n).word)
   exchanged_is n old r t e q = q ∙ ap (λ (z : Bool). if z then asks.Won else asks.Lost (b.seen n).word) (sym e)
 
-  unlocked : (n : ℕ) → ((l : Lock) → owner_of b l ≢ Some n) → (o : Option Lock) → lowest_held (locks_at (b.context n).at) ≡ o → asks.Removed ≡ removed_by o
+  unlocked : (n : ℕ) → ((l : Lock) → owner_of b l ≢ Some n) → (o : Option Lock) → lowest_held (locks_at (b.context n).at) ≡ o →
+      asks.Removed ≡ removed_by o
   unlocked n none None e = refl
-  unlocked n none (Some l) e = absurd (none l (held_owned b h l n (lowest_is_held (locks_at (b.context n).at) l (ranked_at tables (b.context n).at) e)))
+  unlocked n none (Some l) e =
+      absurd (none l (held_owned b h l n (lowest_is_held (locks_at (b.context n).at) l (ranked_at tables (b.context n).at) e)))
 
   -- What a step may be answered is what the words and locks give, or that a context isn't removed.
   response_is : (a : Ask) (r : Response) → Answers b a r → (r ≡ response_to b a) ⊎ (r ≡ asks.Kept)
   response_is (asks.Load n) (asks.Word w) e = inl (ap (λ (v : StateWord). asks.Word v) (sym e))
   response_is (asks.LoadMail n) (asks.Mail m) e = inl (ap (λ (v : Message). asks.Mail v) (sym e))
   response_is (asks.Post n m) asks.Stored e = inl refl
-  response_is (asks.Exchange n old new) asks.Won e = inl (exchanged_is n old asks.Won true (same_where (b.seen n).word old e) refl)
-  response_is (asks.Exchange n old new) (asks.Lost w) e = inl (exchanged_is n old (asks.Lost w) false (differ_where (b.seen n).word old (λ q. e.1 (sym e.0 ∙ q))) (ap (λ (v : StateWord). asks.Lost v) (sym e.0)))
+  response_is (asks.Exchange n old new) asks.Won e =
+      inl (exchanged_is n old asks.Won true (same_where (b.seen n).word old e) refl)
+  response_is (asks.Exchange n old new) (asks.Lost w) e =
+      inl (exchanged_is n old (asks.Lost w) false (differ_where (b.seen n).word old (λ q. e.1 (sym e.0 ∙ q)))
+      (ap (λ (v : StateWord). asks.Lost v) (sym e.0)))
   response_is (asks.Acquire l) asks.Got e = inl (ap acquired (sym e))
   response_is (asks.Acquire l) (asks.Owned o) e = inl (ap acquired (sym e))
   response_is (asks.Release l) asks.Released e = inl refl
@@ -137,7 +155,8 @@ module _ (tables : ThreadTables) (g : Programs) (calls : Board → ℕ → Switc
   alone_kept location.Ended an = an
   alone_kept location.Dead an = an
 
-  alone_is : (p : ThreadLocation) → alone.can_ask p ≡ true → alone_board g b i (b.context i) p (response_to b (alone.ask_of (id_at b i) (b.context i).own p)) ≡ alone_after g b i p
+  alone_is : (p : ThreadLocation) → alone.can_ask p ≡ true →
+      alone_board g b i (b.context i) p (response_to b (alone.ask_of (id_at b i) (b.context i).own p)) ≡ alone_after g b i p
   alone_is location.FallAsleep can = refl
   alone_is location.LookAgain can = refl
   alone_is (location.LoadMail from) can = refl
@@ -148,7 +167,8 @@ module _ (tables : ThreadTables) (g : Programs) (calls : Board → ℕ → Switc
   alone_is location.Ended can = absurd (false≢true can)
   alone_is location.Dead can = absurd (false≢true can)
 
-  switch_is : (c : SwitchCall) (p : SwitchAt) → is_going p ≡ true → switch_board b i (b.context i) c p (response_to b (switch.ask_of c p)) ≡ switch_after b i c p
+  switch_is : (c : SwitchCall) (p : SwitchAt) → is_going p ≡ true →
+      switch_board b i (b.context i) c p (response_to b (switch.ask_of c p)) ≡ switch_after b i c p
   switch_is c switch.AcquireReady going = refl
   switch_is c (switch.Locked p) going = refl
   switch_is c (switch.Returned s) going = refl
@@ -162,33 +182,49 @@ module _ (tables : ThreadTables) (g : Programs) (calls : Board → ℕ → Switc
   pub turn_steps : (b' : Board) → Turn g b i b' → IsStep g calls b i b'
   turn_steps _ (sends c p r at an) = elim (response_is tables b h (send.ask_of c (b.context i).own p) r an) [
     | inl e ↦ stepping.steps (ap (λ (z : Response). send_board g b i (b.context i) c p z) e ∙ at_step (InSend c p) at)
-    | inr e ↦ let w = kept_wants tables b h (send.ask_of c (b.context i).own p) (subst (Answers b (send.ask_of c (b.context i).own p)) e an) in absurd (send_wants c (b.context i).own p w.number w.wants)
+    | inr e ↦
+        let w = kept_wants tables b h (send.ask_of c (b.context i).own p)
+        (subst (Answers b (send.ask_of c (b.context i).own p)) e an) in
+        absurd (send_wants c (b.context i).own p w.number w.wants)
   ]
   turn_steps _ (receives c p r at an) = elim (response_is tables b h (receive.ask_of c (b.context i).own p) r an) [
     | inl e ↦ stepping.steps (ap (λ (z : Response). receive_board g b i (b.context i) c p z) e ∙ at_step (InReceive c p) at)
-    | inr e ↦ let w = kept_wants tables b h (receive.ask_of c (b.context i).own p) (subst (Answers b (receive.ask_of c (b.context i).own p)) e an) in absurd (receive_wants c (b.context i).own p w.number w.wants)
+    | inr e ↦
+        let w = kept_wants tables b h (receive.ask_of c (b.context i).own p)
+        (subst (Answers b (receive.ask_of c (b.context i).own p)) e an) in
+        absurd (receive_wants c (b.context i).own p w.number w.wants)
   ]
   turn_steps _ (creates c p r at an) = elim (response_is tables b h (create.ask_of c (b.context i).own p) r an) [
     | inl e ↦ stepping.steps (ap (λ (z : Response). create_board g b i (b.context i) c p z) e ∙ at_step (InCreate c p) at)
-    | inr e ↦ let w = kept_wants tables b h (create.ask_of c (b.context i).own p) (subst (Answers b (create.ask_of c (b.context i).own p)) e an) in absurd (create_wants c (b.context i).own p w.number w.wants)
+    | inr e ↦
+        let w = kept_wants tables b h (create.ask_of c (b.context i).own p)
+        (subst (Answers b (create.ask_of c (b.context i).own p)) e an) in
+        absurd (create_wants c (b.context i).own p w.number w.wants)
   ]
   turn_steps _ (destroys c p r at an) = elim (response_is tables b h (destroy.ask_of c (b.context i).own p) r an) [
     | inl e ↦ stepping.steps (ap (λ (z : Response). destroy_board g b i (b.context i) c p z) e ∙ at_step (InDestroy c p) at)
     | inr e ↦
-        let w = kept_wants tables b h (destroy.ask_of c (b.context i).own p) (subst (Answers b (destroy.ask_of c (b.context i).own p)) e an) in
+        let w = kept_wants tables b h (destroy.ask_of c (b.context i).own p)
+        (subst (Answers b (destroy.ask_of c (b.context i).own p)) e an) in
         let m = removes_at (b.context i).own (InDestroy c p) w.number w.wants in
         stepping.keeps m.call (at ∙ m.at) (ap (λ (z : Response). destroy_board g b i (b.context i) c p z) e ∙ ap kept_board m.at)
   ]
   turn_steps _ (goes_alone p r at can an) = elim (response_is tables b h (alone.ask_of (id_at b i) (b.context i).own p) r an) [
-    | inl e ↦ stepping.steps (ap (λ (z : Response). alone_board g b i (b.context i) p z) e ∙ alone_is p can ∙ at_step (Alone p) at)
+    | inl e ↦
+        stepping.steps (ap (λ (z : Response). alone_board g b i (b.context i) p z) e ∙ alone_is p can ∙ at_step (Alone p) at)
     | inr e ↦ absurd (alone_kept p (subst (Answers b (alone.ask_of (id_at b i) (b.context i).own p)) e an))
   ]
   turn_steps _ (begins l f at e) = stepping.steps (ap (called_board g b i l) (sym e) ∙ at_step (Alone (location.Between l)) at)
-  turn_steps _ (turns_to_work l count at e) = stepping.steps (ap (called_board g b i l) (sym e) ∙ at_step (Alone (location.Between l)) at)
+  turn_steps _ (turns_to_work l count at e) =
+      stepping.steps (ap (called_board g b i l) (sym e) ∙ at_step (Alone (location.Between l)) at)
   turn_steps _ (wakes at) = stepping.steps (at_step (Alone location.Asleep) at)
   turn_steps _ (switches c p r at going an) = elim (response_is tables b h (switch.ask_of c p) r an) [
-    | inl e ↦ stepping.steps (ap (λ (z : Response). switch_board b i (b.context i) c p z) e ∙ switch_is c p going ∙ at_step (InSwitch c p) at)
-    | inr e ↦ let w = kept_wants tables b h (switch.ask_of c p) (subst (Answers b (switch.ask_of c p)) e an) in absurd (switch_wants c p w.number w.wants)
+    | inl e ↦
+        stepping.steps (ap (λ (z : Response). switch_board b i (b.context i) c p z) e ∙ switch_is c p going
+        ∙ at_step (InSwitch c p) at)
+    | inr e ↦
+        let w = kept_wants tables b h (switch.ask_of c p) (subst (Answers b (switch.ask_of c p)) e an) in
+        absurd (switch_wants c p w.number w.wants)
   ]
   turn_steps _ (begins_switch c at) = stepping.begins c at refl
   turn_steps _ (ends_switch c s at) = stepping.steps (at_step (InSwitch c (switch.Finished s)) at)

@@ -59,12 +59,14 @@ send_wants c own (send.Outside p) n e = grind (arith, common_steps)
 send_wants c own (send.Locked p) n e = grind (arith, common_steps)
 send_wants c own (send.Pushing p) n e = grind (arith, common_steps)
 
-pub receive_wants : (c : ReceiveCall) (own : StateWord) (p : ReceiveAt) (n : ℕ) → want_of (receive.ask_of c own p) ≡ Some (asks.Context n) → ⊥
+pub receive_wants : (c : ReceiveCall) (own : StateWord) (p : ReceiveAt) (n : ℕ) →
+    want_of (receive.ask_of c own p) ≡ Some (asks.Context n) → ⊥
 receive_wants c own (receive.Outside p) n e = grind (arith, common_steps)
 receive_wants c own (receive.Locked p) n e = grind (arith, common_steps)
 receive_wants c own (receive.Pushing p) n e = grind (arith, common_steps)
 
-pub create_wants : (c : CreateCall) (own : StateWord) (p : CreateAt) (n : ℕ) → want_of (create.ask_of c own p) ≡ Some (asks.Context n) → ⊥
+pub create_wants : (c : CreateCall) (own : StateWord) (p : CreateAt) (n : ℕ) →
+    want_of (create.ask_of c own p) ≡ Some (asks.Context n) → ⊥
 create_wants c own (create.Outside p) n e = grind (arith, common_steps)
 create_wants c own (create.Locked p) n e = grind (arith, common_steps)
 create_wants c own (create.PushCreated id) n e = grind (arith, common_steps)
@@ -75,8 +77,13 @@ switch_wants c p n e = grind (arith, common_steps)
 number_is : (m n : ℕ) → Some (asks.Context m) ≡ Some (asks.Context n) → m ≡ n
 number_is m n e = cc
 
-destroy_wants : (c : DestroyCall) (own : StateWord) (p : DestroyAt) (n : ℕ) → want_of (destroy.ask_of c own p) ≡ Some (asks.Context n) → RemovesAt (InDestroy c p) n
-destroy_wants c own (destroy.Locked destroy_locked.RemoveContext) n e = record { call = c; at = refl; number = number_is c.who.number n e }
+destroy_wants : (c : DestroyCall) (own : StateWord) (p : DestroyAt) (n : ℕ) →
+    want_of (destroy.ask_of c own p) ≡ Some (asks.Context n) → RemovesAt (InDestroy c p) n
+destroy_wants c own (destroy.Locked destroy_locked.RemoveContext) n e = record {
+  call = c;
+  at = refl;
+  number = number_is c.who.number n e;
+}
 destroy_wants c own (destroy.Locked destroy_locked.LoadCaller) n e = absurd cc
 destroy_wants c own (destroy.Locked destroy_locked.AcquireVictimLock) n e = absurd cc
 destroy_wants c own (destroy.Locked destroy_locked.AcquireReadyForVictim) n e = absurd cc
@@ -107,7 +114,8 @@ alive w own e run d = dead own run.state (subst (λ (v : StateWord). is_dead v �
     dead v s q = grind arith
 
 -- The context that is removed is another's.
-pub removes_other : (g : Programs) (b : Board) (i n : ℕ) → AllSay g b i (b.context i) (facts_of (b.context i).at) → RemovesAt (b.context i).at n → n ≢ i
+pub removes_other : (g : Programs) (b : Board) (i n : ℕ) → AllSay g b i (b.context i) (facts_of (b.context i).at) →
+    RemovesAt (b.context i).at n → n ≢ i
 removes_other g b i n f r e =
     let h = subst (λ (p : At). AllSay g b i (b.context i) (facts_of p)) r.at f in
     let kept = h.1.1.1.1.1.0 in

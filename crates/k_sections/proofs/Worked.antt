@@ -8,6 +8,7 @@ use Rattle.k_board.specs.Words.{Programs}
 use Rattle.k_board.specs.Boards.{Board}
 use Rattle.k_sections.specs.Worked.{worked_end, worked_mark}
 
-pub worked : (g : Programs) (calls : Board → ℕ → SwitchCall) (message : Message) (position : Position) → (worked_end g calls message position).got ≡ worked_mark ∷ []
+pub worked : (g : Programs) (calls : Board → ℕ → SwitchCall) (message : Message) (position : Position) →
+    (worked_end g calls message position).got ≡ worked_mark ∷ []
 unfolding upd
 worked g calls message position = refl

@@ -134,7 +134,7 @@ module _ (g : Programs) (b : Board) (w : World) (c i : ℕ) (m : MayTurn g b w c
   moves : (p : At) → (b.context i).at ≡ p → is_threads p ≡ true → (f : ℕ → Context) (x : Context) (d : ℕ) → f (b.size + d) ≡ b.context (b.size + d) → upd f i x (b.size + d) ≡ b.context (b.size + d)
   moves p at e f x d k = upd_other f i x (b.size + d) (λ q. absurd (let l = (m.within.threads i (ap is_threads at ∙ e)).number in omega (arith, l, q))) ∙ k
 
-  leaves : (b' : Board) → Turn g b i b' → (d : ℕ) → (b'.size ≡ b.size) × (b'.context (b.size + d) ≡ b.context (b.size + d))
+  pub leaves : (b' : Board) → Turn g b i b' → (d : ℕ) → (b'.size ≡ b.size) × (b'.context (b.size + d) ≡ b.context (b.size + d))
   leaves _ (sends s p r at an) d = (refl, moves (InSend s p) at refl b.context _ d refl)
   leaves _ (receives s p r at an) d = (refl, moves (InReceive s p) at refl b.context _ d refl)
   leaves _ (creates s p r at an) d = (refl, moves (InCreate s p) at refl (create_contexts g s p r b.context) _ d (far_create s p r (facts_at (InCreate s p) at) d))

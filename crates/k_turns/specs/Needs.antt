@@ -10,9 +10,13 @@ use Rattle.k_board.specs.Boards.{At, Board, Coming, InCreate, InDestroy, Nowhere
 use Rattle.k_board.specs.Steps.{new_context}
 use Rattle.k_places.specs.Contexts.{programs_of}
 
--- a new thread's number had a thread that was destroyed, and has no context, or that of the new thread; and a kill is of the victim
+-- a new thread's number had a thread that was destroyed, and has no context, or that of the new thread; and a kill is of the
+-- victim
 abbrev pub Needs : Script → Board → At → Type 0
-Needs script b (InCreate c (create.Locked (create_locked.PlaceContext id))) = ((b.seen id.number).word ≡ dead_word (id.version - 1)) × ((b.context id.number).at ≡ Nowhere)
-Needs script b (InCreate c (create.Locked (create_locked.CommitCreate id))) = ((b.seen id.number).word ≡ dead_word (id.version - 1)) × (b.context id.number ≡ new_context (programs_of script) c id Coming)
+Needs script b (InCreate c (create.Locked (create_locked.PlaceContext id))) =
+    ((b.seen id.number).word ≡ dead_word (id.version - 1)) × ((b.context id.number).at ≡ Nowhere)
+Needs script b (InCreate c (create.Locked (create_locked.CommitCreate id))) =
+    ((b.seen id.number).word ≡ dead_word (id.version - 1)) ×
+    (b.context id.number ≡ new_context (programs_of script) c id Coming)
 Needs script b (InDestroy c (destroy.Victim (victim.CommitKill w))) = c.who.version ≡ w.version
 Needs script b p = Unit {0}

@@ -1,0 +1,10 @@
+mod Outside
+mod Starts
+mod Programs
+mod Turns
+mod Serials
+mod Agreeing
+mod Moves
+mod Runs
+mod Schedules
+mod Replies

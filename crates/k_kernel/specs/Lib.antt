@@ -1,0 +1,4 @@
+pub mod Serials
+pub mod Worlds
+pub mod Moves
+pub mod Runs

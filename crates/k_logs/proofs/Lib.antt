@@ -1,0 +1,3 @@
+pub mod Broken
+pub mod Got
+pub mod Chains

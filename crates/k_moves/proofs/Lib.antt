@@ -1,0 +1,15 @@
+mod Names
+mod Holding
+mod Rules
+mod Looks
+mod Replaced
+mod Wins
+mod Takes
+mod Gives
+mod Outside
+mod ReadyLists
+mod Switches
+mod Releases
+mod Threads
+mod Granted
+mod Sums

@@ -1,0 +1,5 @@
+pub mod Views
+pub mod Moved
+pub mod Switched
+pub mod Told
+pub mod Sums

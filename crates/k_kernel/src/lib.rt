@@ -9,7 +9,7 @@
 mod laws;
 
 pub use laws::{
-    a_thread_is_given_the_specifications_reply, every_move_keeps_the_world, every_run_of_the_world_is_linearizable,
-    the_first_world_holds,
+    a_thread_is_given_the_specifications_reply, every_move_keeps_the_world,
+    every_run_of_the_world_is_linearizable, the_first_world_holds,
     what_comes_from_outside_keeps_the_world,
 };

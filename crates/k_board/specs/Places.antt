@@ -255,6 +255,6 @@ facts_of Resting = []
 facts_of Coming = []
 facts_of Nowhere = []
 
--- Part 11, with 8 and 10: each context's facts hold.
+-- Each context's facts hold.
 abbrev pub PlacesHold : Programs → Board → Type 0
 PlacesHold g b = (i : ℕ) → AllSay g b i (b.context i) (facts_of (b.context i).at)

@@ -1,4 +1,4 @@
--- Parts 2 and 3 of a good board: a lock names a context exactly where the context's location holds the lock.
+-- Of a good board: a lock names a context exactly where the context's location holds the lock.
 use Rattle.std.specs.Prelude.{◌≡◌, ℕ, Option, Some, List}
 use Rattle.k_locks.specs.declared.locks.Lock.{Lock}
 use Rattle.k_locks.specs.declared.locks.Lock.TheVariants as lock

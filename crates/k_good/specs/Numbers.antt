@@ -1,4 +1,4 @@
--- Part 6 of a good board: the list of numbers agrees with the words, but for the number that the owner of the table lock is about to
+-- Of a good board: the list of numbers agrees with the words, but for the number that the owner of the table lock is about to
 -- note; and a number without a thread has no context, but for the one that is being made or removed.
 use Rattle.std.specs.Prelude.{◌≡◌, ℕ, ◌<◌, ◌==◌, ◌&&◌, not, Bool, true, false, Option, Some, None, length}
 use Rattle.k_locks.specs.Numbers.{ThreadNumbers, is_present, version_at}

@@ -1,4 +1,4 @@
--- Part 0 of a good board: thread ids in words and locations are in the table's range.
+-- Of a good board: thread ids in words and locations are in the table's range.
 use Rattle.std.specs.Prelude.{◌≡◌, ℕ, Bool, true, false, Option, IfSome, length}
 use Rattle.k_ids.specs.declared.calls.Phase.{Phase}
 use Rattle.k_ids.specs.declared.calls.Reply.{Reply}

@@ -14,7 +14,8 @@ use Rattle.k_threads.specs.Words.{created_word}
 use Rattle.k_threads.specs.declared.create.CreateCall.{CreateCall}
 use Rattle.k_threads.specs.declared.create.CreateOutside.TheVariants.{AcquireTable, Ended}
 use Rattle.k_threads.specs.declared.create.CreateLocked.{CreateLocked}
-use Rattle.k_threads.specs.declared.create.CreateLocked.TheVariants.{LoadCaller, PlaceContext, CommitCreate, AcquireReady, Release}
+use Rattle.k_threads.specs.declared.create.CreateLocked.TheVariants.{LoadCaller, PlaceContext}
+use Rattle.k_threads.specs.declared.create.CreateLocked.TheVariants.{CommitCreate, AcquireReady, Release}
 use Rattle.k_threads.specs.declared.create.CreateRelease.{CreateRelease}
 use Rattle.k_threads.specs.declared.create.CreateRelease.TheVariants as release
 use Rattle.k_threads.specs.CreateTable.{CreateAt, Outside, Locked, PushCreated, choose}
@@ -44,12 +45,15 @@ use Rattle.k_grants.proofs.Worlds.{world_of}
 abbrev locked_of : CreateCall → CreateLocked → At
 locked_of c p = InCreate c (Locked p)
 
-chosen_quiet : (c : CreateCall) (numbers : ThreadNumbers) (o : Option ℕ) → IsQuiet (locked_of c LoadCaller) (locked_of c (choose numbers o))
+chosen_quiet : (c : CreateCall) (numbers : ThreadNumbers) (o : Option ℕ) →
+    IsQuiet (locked_of c LoadCaller) (locked_of c (choose numbers o))
 chosen_quiet c numbers None = silent refl refl refl refl
 chosen_quiet c numbers (Some n) = silent refl refl refl refl
 
-module _ (g : Programs) (b : Board) (w : World) (k i : ℕ) (a : Agrees b w) (names : NamesFit g b.size) (alive : b.table ≡ Some i → is_dead (b.seen i).word ≡ true → ⊥)
-    (low : (t : ℕ) → w.threads.priority t < 64) (inside : i < b.size) (finding : Finding) (wait : IsWait finding.waits) (c : CreateCall) where
+module _ (g : Programs) (b : Board) (w : World) (k i : ℕ) (a : Agrees b w) (names : NamesFit g b.size)
+    (alive : b.table ≡ Some i → is_dead (b.seen i).word ≡ true → ⊥)
+    (low : (t : ℕ) → w.threads.priority t < 64) (inside : i < b.size) (finding : Finding) (wait : IsWait finding.waits)
+    (c : CreateCall) where
   abbrev After : CreateAt → Response → Board
   After p r = create_board g b i (b.context i) c p r
 
@@ -69,16 +73,26 @@ module _ (g : Programs) (b : Board) (w : World) (k i : ℕ) (a : Agrees b w) (na
   abbrev Answered : CreateAt → Response → Type 0
   Answered p r = Answers b (create.ask_of c (b.context i).own p) r
 
-  seen_after : (p : CreateAt) (r : Response) → Answered p r → sights_of (After p r) ≡ sighted (sights_of b) (create.ask_of c (b.context i).own p) r
-  seen_after p r an = sights_after g b (b.context i).position (create.points c (b.seen i).word (hand_of b []) p r) (create.ask_of c (b.context i).own p) r an
+  seen_after : (p : CreateAt) (r : Response) → Answered p r →
+      sights_of (After p r) ≡ sighted (sights_of b) (create.ask_of c (b.context i).own p) r
+  seen_after p r an =
+      sights_after g b (b.context i).position (create.points c (b.seen i).word (hand_of b []) p r)
+      (create.ask_of c (b.context i).own p) r an
 
-  module _ (p : CreateAt) (r : Response) (at : (b.context i).at ≡ InCreate c p) (an : Answered p r) (u : IsUnready b (After p r)) (t : (After p r).table ≡ b.table)
-      (x : create_contexts g c p r b.context ≡ b.context) (e : sighted (sights_of b) (create.ask_of c (b.context i).own p) r ≡ sights_of b) where
-    goes : (look_at (InCreate c p)).push ≡ None → IsQuiet (InCreate c p) (Next p r) → Turned (After p r) (world_of w b) k i finding false (Next p r)
+  module _ (p : CreateAt) (r : Response) (at : (b.context i).at ≡ InCreate c p) (an : Answered p r) (u : IsUnready b (After p r))
+      (t : (After p r).table ≡ b.table)
+      (x : create_contexts g c p r b.context ≡ b.context) (e :
+      sighted (sights_of b) (create.ask_of c (b.context i).own p) r ≡ sights_of b) where
+    goes : (look_at (InCreate c p)).push ≡ None → IsQuiet (InCreate c p) (Next p r) →
+        Turned (After p r) (world_of w b) k i finding false (Next p r)
     goes n h = kinds.goes w b k i a finding (InCreate c p) at (After p r) (Next p r) (moved p r x) u t (seen_after p r an ∙ e) n h
 
-    waits : look_at (Next p r) ≡ look_at (InCreate c p) → (look_at (InCreate c p)).locks.ready ≡ false → PushSays (After p r).seen (board_threads (After p r)) (Next p r) → Turned (After p r) (world_of w b) k i finding true (Next p r)
-    waits h n s = kinds.waits w b k i a finding (InCreate c p) at (After p r) (Next p r) (moved p r x) u t (seen_after p r an ∙ e) wait h n s
+    waits : look_at (Next p r) ≡ look_at (InCreate c p) → (look_at (InCreate c p)).locks.ready ≡ false →
+        PushSays (After p r).seen (board_threads (After p r)) (Next p r) →
+        Turned (After p r) (world_of w b) k i finding true (Next p r)
+    waits h n s =
+        kinds.waits w b k i a finding (InCreate c p) at (After p r) (Next p r) (moved p r x) u t
+        (seen_after p r an ∙ e) wait h n s
 
   -- a context is placed, or its thread is made
   looks_both : (p : CreateAt) (r : Response) (n : ℕ) (y : Context) → create_contexts g c p r b.context ≡ upd b.context n y
@@ -91,24 +105,50 @@ module _ (g : Programs) (b : Board) (w : World) (k i : ℕ) (a : Agrees b w) (na
   other_place : (p q : At) → (b.context i).at ≡ p → (n : ℕ) → (b.context n).at ≡ q → (p ≡ q → ⊥) → i ≢ n
   other_place p q at n is differ e = differ (sym at ∙ ap (λ (z : ℕ). (b.context z).at) e ∙ is)
 
-  placed : (id : ThreadId) → (b.context i).at ≡ locked_of c (PlaceContext id) → AllSay g b i (b.context i) (facts_create c (Locked (PlaceContext id))) → Stood (Locked (PlaceContext id)) asks.Placed
+  placed : (id : ThreadId) → (b.context i).at ≡ locked_of c (PlaceContext id) →
+      AllSay g b i (b.context i) (facts_create c (Locked (PlaceContext id))) → Stood (Locked (PlaceContext id)) asks.Placed
   placed id at h =
-      silently (places w b k i a finding (locked_of c (PlaceContext id)) at (After p asks.Placed) (Next p asks.Placed) id.number (look_at Coming)
-      (other_place (locked_of c (PlaceContext id)) Nowhere at id.number h.1.1.1.1.1.1.1.0.1 (λ z. cc)) refl (looks_both p asks.Placed id.number (new_context g c id Coming) refl)
-      record { ready = refl; lists = refl } h.0 refl (seen_after p asks.Placed tt) refl (ap look_at h.1.1.1.1.1.1.1.0.1) (ap is_dead h.1.1.1.1.1.1.0.1)
-      record { about = record { condition = refl; coming = refl; locks = refl; push = refl }; victim = refl; listed = refl; making = refl; table = refl; none = refl; unmade = refl }) refl
+      silently (places w b k i a finding (locked_of c (PlaceContext id)) at (After p asks.Placed) (Next p asks.Placed) id.number
+      (look_at Coming)
+      (other_place (locked_of c (PlaceContext id)) Nowhere at id.number h.1.1.1.1.1.1.1.0.1 (λ z. cc)) refl
+      (looks_both p asks.Placed id.number (new_context g c id Coming) refl)
+      record { ready = refl; lists = refl } h.0 refl (seen_after p asks.Placed tt) refl (ap look_at h.1.1.1.1.1.1.1.0.1)
+      (ap is_dead h.1.1.1.1.1.1.0.1)
+      record {
+        about = record { condition = refl; coming = refl; locks = refl; push = refl };
+        victim = refl;
+        listed = refl;
+        making = refl;
+        table = refl;
+        none = refl;
+        unmade = refl;
+      }) refl
     where
       p : CreateAt
       p = Locked (PlaceContext id)
 
-  made : (id : ThreadId) → (b.context i).at ≡ locked_of c (CommitCreate id) → Answered (Locked (CommitCreate id)) asks.Won → AllSay g b i (b.context i) (facts_create c (Locked (CommitCreate id)))
+  made : (id : ThreadId) → (b.context i).at ≡ locked_of c (CommitCreate id) → Answered (Locked (CommitCreate id)) asks.Won →
+      AllSay g b i (b.context i) (facts_create c (Locked (CommitCreate id)))
       → Stood (Locked (CommitCreate id)) asks.Won
   made id at an h = record {
-    granted = makes w b k i a finding (locked_of c (CommitCreate id)) at (After p asks.Won) (Next p asks.Won) id.number (look_at (Alone (location.Between None)))
-        (other_place (locked_of c (CommitCreate id)) Coming at id.number arriving (λ z. cc)) refl (looks_both p asks.Won id.number (new_context g c id (Alone (location.Between None))) refl)
-        record { ready = refl; lists = refl } h.0 refl id (created_word id.version c.priority) refl version (seen_after p asks.Won an) version refl refl refl low_priority refl (ap look_at arriving)
-        record { about = record { condition = refl; coming = refl; locks = refl; push = refl }; victim = refl; listed = refl; making = refl; is = refl; table = refl; push = refl };
-    says = subst (λ (x : StateWord). IsOnAt x id c.priority) (sym word) (record { version = refl; running = refl; on = refl }, refl);
+    granted =
+        makes w b k i a finding (locked_of c (CommitCreate id)) at (After p asks.Won) (Next p asks.Won) id.number
+        (look_at (Alone (location.Between None)))
+        (other_place (locked_of c (CommitCreate id)) Coming at id.number arriving (λ z. cc)) refl
+        (looks_both p asks.Won id.number (new_context g c id (Alone (location.Between None))) refl)
+        record { ready = refl; lists = refl } h.0 refl id (created_word id.version c.priority) refl version
+        (seen_after p asks.Won an) version refl refl refl low_priority refl (ap look_at arriving)
+        record {
+          about = record { condition = refl; coming = refl; locks = refl; push = refl };
+          victim = refl;
+          listed = refl;
+          making = refl;
+          is = refl;
+          table = refl;
+          push = refl;
+        };
+    says =
+        subst (λ (x : StateWord). IsOnAt x id c.priority) (sym word) (record { version = refl; running = refl; on = refl }, refl);
   }
     where
       p : CreateAt
@@ -118,7 +158,9 @@ module _ (g : Programs) (b : Board) (w : World) (k i : ℕ) (a : Agrees b w) (na
       arriving = ap (λ (x : Context). x.at) h.1.1.1.1.1.1.1.0.1
 
       version : id.version ≡ (b.seen id.number).word.version + 1
-      version = next_of id.version (version_at b.numbers id.number) (b.seen id.number).word.version h.1.1.1.1.1.0.2 (ap (λ (x : StateWord). x.version) an)
+      version =
+          next_of id.version (version_at b.numbers id.number) (b.seen id.number).word.version h.1.1.1.1.1.0.2
+          (ap (λ (x : StateWord). x.version) an)
         where
           next_of : (m n v : ℕ) → m ≡ n + 1 → v ≡ m - 1 → m ≡ v + 1
           next_of m n v e d = omega (arith, e, d)
@@ -130,39 +172,66 @@ module _ (g : Programs) (b : Board) (w : World) (k i : ℕ) (a : Agrees b w) (na
           few n l = omega (arith, l)
 
       word : word_at (After p asks.Won).seen id ≡ created_word id.version c.priority
-      word = ap (λ (f : ℕ → StateWord). f id.number) (words_after g b (b.context i).position (create.points c (b.seen i).word (hand_of b []) p asks.Won) (create.ask_of c (b.context i).own p) asks.Won an)
+      word =
+          ap (λ (f : ℕ → StateWord). f id.number) (words_after g b (b.context i).position
+          (create.points c (b.seen i).word (hand_of b []) p asks.Won) (create.ask_of c (b.context i).own p) asks.Won an)
           ∙ upd_same (λ t. (b.seen t).word) id.number (created_word id.version c.priority)
 
-  finished : (p : CreateRelease) → (b.context i).at ≡ locked_of c (Release p) → AllSay g b i (b.context i) (facts_create c (Locked (Release p))) → Stood (Locked (Release p)) asks.Released
-  finished (release.Made id) at h = silently (releases_table w b k i a finding (locked_of c (Release (release.Made id))) at (After (Locked (Release (release.Made id))) asks.Released) (Next (Locked (Release (release.Made id))) asks.Released)
-      (moved (Locked (Release (release.Made id))) asks.Released refl) record { ready = refl; lists = refl } (seen_after (Locked (Release (release.Made id))) asks.Released tt) h.0 refl refl refl refl refl refl refl refl
+  finished : (p : CreateRelease) → (b.context i).at ≡ locked_of c (Release p) →
+      AllSay g b i (b.context i) (facts_create c (Locked (Release p))) → Stood (Locked (Release p)) asks.Released
+  finished (release.Made id) at h =
+      silently (releases_table w b k i a finding (locked_of c (Release (release.Made id))) at
+      (After (Locked (Release (release.Made id))) asks.Released) (Next (Locked (Release (release.Made id))) asks.Released)
+      (moved (Locked (Release (release.Made id))) asks.Released refl) record { ready = refl; lists = refl }
+      (seen_after (Locked (Release (release.Made id))) asks.Released tt) h.0 refl refl refl refl refl refl refl refl
       record { condition = refl; coming = refl; locks = refl; push = refl }) refl
-  finished (release.Full m n) at h = silently (releases_table w b k i a finding (locked_of c (Release (release.Full m n))) at (After (Locked (Release (release.Full m n))) asks.Released) (Next (Locked (Release (release.Full m n))) asks.Released)
-      (moved (Locked (Release (release.Full m n))) asks.Released refl) record { ready = refl; lists = refl } (seen_after (Locked (Release (release.Full m n))) asks.Released tt) h.0 refl refl refl refl refl refl refl refl
+  finished (release.Full m n) at h =
+      silently (releases_table w b k i a finding (locked_of c (Release (release.Full m n))) at
+      (After (Locked (Release (release.Full m n))) asks.Released) (Next (Locked (Release (release.Full m n))) asks.Released)
+      (moved (Locked (Release (release.Full m n))) asks.Released refl) record { ready = refl; lists = refl }
+      (seen_after (Locked (Release (release.Full m n))) asks.Released tt) h.0 refl refl refl refl refl refl refl refl
       record { condition = refl; coming = refl; locks = refl; push = refl }) refl
   finished release.Dead at h = absurd (alive h.0 h.1.0)
 
-  pub create_turned : (p : CreateAt) (r : Response) → (b.context i).at ≡ InCreate c p → Answered p r → AllSay g b i (b.context i) (facts_create c p)
+  pub create_turned : (p : CreateAt) (r : Response) → (b.context i).at ≡ InCreate c p → Answered p r →
+      AllSay g b i (b.context i) (facts_create c p)
       → PushSays b.seen (board_threads b) (InCreate c p) → Stood p r
   create_turned (Outside AcquireTable) asks.Got at an h s =
-      silently (acquires_table w b k i a finding (InCreate c (Outside AcquireTable)) at (After (Outside AcquireTable) asks.Got) (Next (Outside AcquireTable) asks.Got) (moved (Outside AcquireTable) asks.Got refl)
-      record { ready = refl; lists = refl } (seen_after (Outside AcquireTable) asks.Got an) an refl refl refl refl record { condition = refl; coming = refl; locks = refl; push = refl }) refl
-  create_turned (Outside AcquireTable) (asks.Owned o) at an h s = waits (Outside AcquireTable) (asks.Owned o) at an record { ready = refl; lists = refl } refl refl refl refl refl tt
+      silently (acquires_table w b k i a finding (InCreate c (Outside AcquireTable)) at (After (Outside AcquireTable) asks.Got)
+      (Next (Outside AcquireTable) asks.Got) (moved (Outside AcquireTable) asks.Got refl)
+      record { ready = refl; lists = refl }
+      (seen_after (Outside AcquireTable) asks.Got an) an refl refl refl refl record {
+        condition = refl;
+        coming = refl;
+        locks = refl;
+        push = refl;
+      }) refl
+  create_turned (Outside AcquireTable) (asks.Owned o) at an h s =
+      waits (Outside AcquireTable) (asks.Owned o) at an record { ready = refl; lists = refl } refl refl refl refl refl tt
   create_turned (Locked LoadCaller) (asks.Word v) at an h s =
       goes (Locked LoadCaller) (asks.Word v) at an record { ready = refl; lists = refl } refl refl refl refl
-      (if_cases (λ (q : CreateLocked). IsQuiet (locked_of c LoadCaller) (locked_of c q)) (is_dead v) _ _ (λ z. silent refl refl refl refl) (λ z. chosen_quiet c b.numbers (lowest_free b.numbers)))
+      (if_cases (λ (q : CreateLocked). IsQuiet (locked_of c LoadCaller) (locked_of c q)) (is_dead v) _ _
+      (λ z. silent refl refl refl refl) (λ z. chosen_quiet c b.numbers (lowest_free b.numbers)))
   create_turned (Locked (PlaceContext id)) asks.Placed at an h s = placed id at h
   create_turned (Locked (CommitCreate id)) asks.Won at an h s = made id at an h
-  create_turned (Locked (CommitCreate id)) (asks.Lost x) at an h s = goes (Locked (CommitCreate id)) (asks.Lost x) at an record { ready = refl; lists = refl } refl refl refl refl (silent refl refl refl refl)
+  create_turned (Locked (CommitCreate id)) (asks.Lost x) at an h s =
+      goes (Locked (CommitCreate id)) (asks.Lost x) at an record { ready = refl; lists = refl } refl refl refl refl
+      (silent refl refl refl refl)
   create_turned (Locked (AcquireReady id)) asks.Got at an h s = record {
-    granted = acquires_ready w b k i a finding (locked_of c (AcquireReady id)) at (After (Locked (AcquireReady id)) asks.Got) (Next (Locked (AcquireReady id)) asks.Got)
-        (moved (Locked (AcquireReady id)) asks.Got refl) (seen_after (Locked (AcquireReady id)) asks.Got an) refl an refl refl inside (acquiring refl refl);
+    granted =
+        acquires_ready w b k i a finding (locked_of c (AcquireReady id)) at (After (Locked (AcquireReady id)) asks.Got)
+        (Next (Locked (AcquireReady id)) asks.Got)
+        (moved (Locked (AcquireReady id)) asks.Got refl) (seen_after
+        (Locked (AcquireReady id)) asks.Got an) refl an refl refl inside (acquiring refl refl);
     says = s;
   }
-  create_turned (Locked (AcquireReady id)) (asks.Owned o) at an h s = waits (Locked (AcquireReady id)) (asks.Owned o) at an record { ready = refl; lists = refl } refl refl refl refl refl s
+  create_turned (Locked (AcquireReady id)) (asks.Owned o) at an h s =
+      waits (Locked (AcquireReady id)) (asks.Owned o) at an record { ready = refl; lists = refl } refl refl refl refl refl s
   create_turned (PushCreated id) asks.Released at an h s =
-      silently (pushes w b k i a finding (InCreate c (PushCreated id)) at (After (PushCreated id) asks.Released) (Next (PushCreated id) asks.Released) (moved (PushCreated id) asks.Released refl)
-      id (Some c.priority) (seen_after (PushCreated id) asks.Released an) refl refl refl (told_on w.threads.priority b id c.priority low a.priorities s)
+      silently (pushes w b k i a finding (InCreate c (PushCreated id)) at (After (PushCreated id) asks.Released)
+      (Next (PushCreated id) asks.Released) (moved (PushCreated id) asks.Released refl)
+      id (Some c.priority) (seen_after (PushCreated id) asks.Released an) refl refl refl
+      (told_on w.threads.priority b id c.priority low a.priorities s)
       (pushing refl refl refl refl refl)) refl
   create_turned (Locked (Release q)) asks.Released at an h s = finished q at h
   create_turned (Outside (Ended v)) r at an h s = absurd h.0

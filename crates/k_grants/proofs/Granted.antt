@@ -13,11 +13,14 @@ use Rattle.k_threads.specs.DestroyTable.{DestroyAt}
 use Rattle.k_threads.specs.DestroyTable as destroy
 use Rattle.k_caller.specs.declared.thread.ThreadLocation.TheVariants as location
 use Rattle.k_board.specs.Words.{Programs}
-use Rattle.k_board.specs.Boards.{At, Alone, InSend, InReceive, InCreate, InDestroy, InSwitch, Resting, Nowhere, Board, Context, hand_of, id_at}
+use Rattle.k_board.specs.Boards.{At, Alone, InSend, InReceive, InCreate, InDestroy, InSwitch}
+use Rattle.k_board.specs.Boards.{Resting, Nowhere, Board, Context, hand_of, id_at}
 use Rattle.k_board.specs.Facts.{AllSay}
 use Rattle.k_board.specs.Places.{facts_of}
-use Rattle.k_board.specs.Steps.{alone_context, begun, begun_at, create_context, create_contexts, destroy_board, destroy_context, destroy_contexts, destroy_number, receive_context, send_context, working}
-use Rattle.k_board.specs.Turns.{Turn, sends, receives, creates, destroys, goes_alone, begins, turns_to_work, wakes, switches, begins_switch, ends_switch}
+use Rattle.k_board.specs.Steps.{alone_context, begun, begun_at, create_context, create_contexts, destroy_board}
+use Rattle.k_board.specs.Steps.{destroy_context, destroy_contexts, destroy_number, receive_context, send_context, working}
+use Rattle.k_board.specs.Turns.{Turn, sends, receives, creates, destroys, goes_alone, begins}
+use Rattle.k_board.specs.Turns.{turns_to_work, wakes, switches, begins_switch, ends_switch}
 use Rattle.k_good.specs.Ranges.{is_threads}
 use Rattle.k_tokens.specs.World.{Absent, Asleep, Awake, Condition, Threads, World}
 use Rattle.k_tokens.specs.Good.{Parts}
@@ -32,7 +35,8 @@ use Rattle.k_grants.proofs.CreateTurns.{create_turned}
 use Rattle.k_grants.proofs.DestroyTurns.{destroy_turned}
 use Rattle.k_grants.proofs.AloneTurns.{alone_turned, begins_turned, works_turned}
 
-module _ (g : Programs) (b : Board) (w : World) (k i : ℕ) (m : MayTurn g b w k i) (finding : Finding) (wait : IsWait finding.waits) where
+module _ (g : Programs) (b : Board) (w : World) (k i : ℕ) (m : MayTurn g b w k i) (finding : Finding)
+    (wait : IsWait finding.waits) where
   parts : Parts (world_of w b) m.holder
   parts = to_world (λ (u : World). Parts u m.holder) w b m.agrees m.parts
 
@@ -63,51 +67,74 @@ module _ (g : Programs) (b : Board) (w : World) (k i : ℕ) (m : MayTurn g b w k
   says_at p at = subst (λ (q : At). PushSays b.seen (board_threads b) q) at (m.pushes i)
 
   -- where the context stands afterwards
-  stood : {again : Bool} (b' : Board) (f : ℕ → Context) (x : Context) → b'.context ≡ upd f i x → Turned b' (world_of w b) k i finding again x.at → Turned b' (world_of w b) k i finding again (b'.context i).at
-  stood {again} b' f x e h = subst (λ (z : Context). Turned b' (world_of w b) k i finding again z.at) (sym (ap (λ (h : ℕ → Context). h i) e ∙ upd_same f i x)) h
+  stood : {again : Bool} (b' : Board) (f : ℕ → Context) (x : Context) → b'.context ≡ upd f i x →
+      Turned b' (world_of w b) k i finding again x.at → Turned b' (world_of w b) k i finding again (b'.context i).at
+  stood {again} b' f x e h =
+      subst (λ (z : Context). Turned b' (world_of w b) k i finding again z.at)
+      (sym (ap (λ (h : ℕ → Context). h i) e ∙ upd_same f i x)) h
 
   not_awake : (p : At) (c : Condition) → (b.context i).at ≡ p → (look_at p).condition ≡ c → (c ≡ Awake → ⊥) → ⊥
   not_awake p c at e differ = differ (sym e ∙ ap (λ (q : At). (look_at q).condition) (sym at) ∙ awake)
 
   free_of : (c : DestroyCall) (p : DestroyAt) (r : Response) → (b.context i).at ≡ InDestroy c p → i ≢ c.who.number
-      → IsFreeToRemove b w i (destroy_board g b i (b.context i) c p r) → p ≡ destroy.Locked destroy_locked.RemoveContext → r ≡ asks.Removed → w.held c.who.number ≡ None
+      → IsFreeToRemove b w i (destroy_board g b i (b.context i) c p r) → p ≡ destroy.Locked destroy_locked.RemoveContext →
+      r ≡ asks.Removed → w.held c.who.number ≡ None
   free_of c p r at apart h e d = h c (at ∙ ap (InDestroy c) e) nowhere
     where
       nowhere : ((destroy_board g b i (b.context i) c p r).context c.who.number).at ≡ Nowhere
       nowhere = subst (λ (q : DestroyAt). ((destroy_board g b i (b.context i) c q r).context c.who.number).at ≡ Nowhere) (sym e)
-          (subst (λ (q : Response). ((destroy_board g b i (b.context i) c (destroy.Locked destroy_locked.RemoveContext) q).context c.who.number).at ≡ Nowhere) (sym d)
-          (ap (λ (x : Context). x.at) (upd_other (upd b.context c.who.number gone) i (destroy_context (b.context i) c (destroy.Locked destroy_locked.RemoveContext) asks.Removed (hand_of b (b.queue c.who.number))) c.who.number (λ z. apart (sym z))
+          (subst (λ (q : Response). ((destroy_board g b i (b.context i) c
+          (destroy.Locked destroy_locked.RemoveContext) q).context c.who.number).at ≡ Nowhere) (sym d)
+          (ap (λ (x : Context). x.at) (upd_other (upd b.context c.who.number gone) i
+          (destroy_context (b.context i) c (destroy.Locked destroy_locked.RemoveContext) asks.Removed
+          (hand_of b (b.queue c.who.number))) c.who.number (λ z. apart (sym z))
           ∙ upd_same b.context c.who.number gone)))
         where
           gone : Context
           gone = record (b.context c.who.number) { at = Nowhere }
 
-  pub turned : (b' : Board) → IsFreeToRemove b w i b' → (t : Turn g b i b') → Turned b' (world_of w b) k i finding (is_again g b i b' t) (b'.context i).at
+  pub turned : (b' : Board) → IsFreeToRemove b w i b' → (t : Turn g b i b') →
+      Turned b' (world_of w b) k i finding (is_again g b i b' t) (b'.context i).at
   turned _ free (sends c p r at an) =
       stood _ b.context (send_context (b.context i) c p r (hand_of b (b.queue c.to.number))) refl
-      (send_turned g b w k i m.agrees m.parts.threads.priority (inside (InSend c p) at refl) finding wait c p r at an (facts_at (InSend c p) at) (says_at (InSend c p) at))
+      (send_turned g b w k i m.agrees m.parts.threads.priority (inside (InSend c p) at refl) finding wait c p r at an
+      (facts_at (InSend c p) at) (says_at (InSend c p) at))
   turned _ free (receives c p r at an) =
       stood _ b.context (receive_context (b.context i) c p r (hand_of b (b.queue i))) refl
-      (receive_turned g b w k i m.agrees low (inside (InReceive c p) at refl) finding wait c p r at an (facts_at (InReceive c p) at) (says_at (InReceive c p) at))
+      (receive_turned g b w k i m.agrees low (inside (InReceive c p) at refl) finding wait c p r at an
+      (facts_at (InReceive c p) at) (says_at (InReceive c p) at))
   turned _ free (creates c p r at an) =
       stood _ (create_contexts g c p r b.context) (create_context (b.context i) c p r (hand_of b [])) refl
-      (create_turned g b w k i m.agrees m.names alive m.parts.threads.priority (inside (InCreate c p) at refl) finding wait c p r at an (facts_at (InCreate c p) at) (says_at (InCreate c p) at))
+      (create_turned g b w k i m.agrees m.names alive m.parts.threads.priority
+      (inside (InCreate c p) at refl) finding wait c p r at an (facts_at (InCreate c p) at) (says_at (InCreate c p) at))
   turned _ free (destroys c p r at an) =
-      stood _ (destroy_contexts c p r b.context) (destroy_context (b.context i) c p r (hand_of b (b.queue (destroy_number c p)))) refl
-      (destroy_turned g b w k i m.agrees m.holder parts m.good.locks m.parts.threads.priority (inside (InDestroy c p) at refl) finding wait c p r at an (facts_at (InDestroy c p) at) (says_at (InDestroy c p) at)
+      stood _ (destroy_contexts c p r b.context) (destroy_context (b.context i) c p r
+      (hand_of b (b.queue (destroy_number c p)))) refl
+      (destroy_turned g b w k i m.agrees m.holder parts m.good.locks m.parts.threads.priority
+      (inside (InDestroy c p) at refl) finding wait c p r at an (facts_at (InDestroy c p) at) (says_at (InDestroy c p) at)
       (λ e d. free_of c p r at (apart c p at e) free e d))
     where
-      apart : (c : DestroyCall) (p : DestroyAt) → (b.context i).at ≡ InDestroy c p → p ≡ destroy.Locked destroy_locked.RemoveContext → i ≢ c.who.number
-      apart c p at e n = (let h = facts_at (InDestroy c (destroy.Locked destroy_locked.RemoveContext)) (at ∙ ap (InDestroy c) e) in alive h.1.0 (ap (λ (t : ℕ). is_dead (b.seen t).word) n ∙ h.0.1))
+      apart : (c : DestroyCall) (p : DestroyAt) → (b.context i).at ≡ InDestroy c p →
+          p ≡ destroy.Locked destroy_locked.RemoveContext → i ≢ c.who.number
+      apart c p at e n =
+          (let h = facts_at (InDestroy c (destroy.Locked destroy_locked.RemoveContext)) (at ∙ ap (InDestroy c) e) in
+          alive h.1.0 (ap (λ (t : ℕ). is_dead (b.seen t).word) n ∙ h.0.1))
   turned _ free (goes_alone p r at can an) =
-      stood _ b.context (alone_context (b.context i) p r) refl (alone_turned g b w k i m.agrees finding p r can at an (facts_at (Alone p) at))
-  turned _ free (begins l f at e) = stood _ b.context (begun g (b.context i) l (begun_at b.size (id_at b i) f)) refl (begins_turned g b w k i m.agrees finding l f at)
-  turned _ free (turns_to_work l count at e) = stood _ b.context (working g (b.context i) l count) refl (works_turned g b w k i m.agrees finding l count at)
+      stood _ b.context (alone_context (b.context i) p r) refl
+      (alone_turned g b w k i m.agrees finding p r can at an (facts_at (Alone p) at))
+  turned _ free (begins l f at e) =
+      stood _ b.context (begun g (b.context i) l (begun_at b.size (id_at b i) f)) refl
+      (begins_turned g b w k i m.agrees finding l f at)
+  turned _ free (turns_to_work l count at e) =
+      stood _ b.context (working g (b.context i) l count) refl (works_turned g b w k i m.agrees finding l count at)
   turned _ free (wakes at) = absurd (not_awake (Alone location.Asleep) Asleep at refl (λ z. cc))
   turned _ free (switches c p r at going an) = absurd (not_awake (InSwitch c p) Absent at refl (λ z. cc))
   turned _ free (begins_switch c at) = absurd (not_awake Resting Absent at refl (λ z. cc))
   turned _ free (ends_switch c q at) = absurd (not_awake (InSwitch c _) Absent at refl (λ z. cc))
 
-pub turn_granted : (g : Programs) (b b' : Board) (w : World) (k i : ℕ) (f : Finding) → MayTurn g b w k i → IsWait f.waits → IsFreeToRemove b w i b' → (t : Turn g b i b')
+pub turn_granted : (g : Programs) (b b' : Board) (w : World) (k i : ℕ) (f : Finding) → MayTurn g b w k i → IsWait f.waits →
+    IsFreeToRemove b w i b' → (t : Turn g b i b')
     → IsGranted b' w k i f (is_again g b i b' t)
-turn_granted g b b' w k i f m wait free t = from_world (λ (u : World). IsGranted b' u k i f (is_again g b i b' t)) w b m.agrees (turned g b w k i m f wait b' free t).granted
+turn_granted g b b' w k i f m wait free t =
+    from_world (λ (u : World). IsGranted b' u k i f (is_again g b i b' t)) w b m.agrees
+    (turned g b w k i m f wait b' free t).granted

@@ -14,8 +14,10 @@ use Rattle.k_locks.specs.Shown.{is_dead}
 use Rattle.k_board.specs.Boards.{At, Board}
 use Rattle.k_tokens.specs.World.{OfThread, World, Dead, holds_any, no_locks}
 use Rattle.k_tokens.specs.Good.{Told}
-use Rattle.k_tokens.specs.Steps.{ThreadStep, GoesOn, FindsOwned, FindsTaken, TurnsOn, AcquiresReady, Pushes, AcquiresTable, ReleasesTable, Dies, listed_by, with_ready}
-use Rattle.k_grants.specs.Views.{Look, PrioritiesAre, Sight, is_ended, look_at, looks_of, name_by, name_of, sight_of, sights_of, threads_by, threads_of}
+use Rattle.k_tokens.specs.Steps.{ThreadStep, GoesOn, FindsOwned, FindsTaken, TurnsOn, AcquiresReady}
+use Rattle.k_tokens.specs.Steps.{Pushes, AcquiresTable, ReleasesTable, Dies, listed_by, with_ready}
+use Rattle.k_grants.specs.Views.{Look, PrioritiesAre, Sight, is_ended, look_at, looks_of}
+use Rattle.k_grants.specs.Views.{name_by, name_of, sight_of, sights_of, threads_by, threads_of}
 use Rattle.k_grants.specs.Granted.{Agrees, Finding, IsGranted, IsWait}
 use Rattle.k_grants.proofs.Moves.{IsAbout, IsSame, acquired_is, dead_is, holding_is, pushed_is, released_is, turned_is}
 use Rattle.k_grants.proofs.Sights.{priorities_keep}
@@ -75,7 +77,8 @@ pushed_by (Some priority) who r = pushed who priority r
 lists_pushed : (told : Option ℕ) (who : ThreadId) (r : Ready) → ((n : ℕ) → told ≡ Some n → n < 64) → length r.lists ≡ 64
     → listed_by (list_of r.lists) (Some who) told ≡ list_of (pushed_by told who r).lists
 lists_pushed None who r low size = refl
-lists_pushed (Some n) who r low size = sym (list_changed r n (list_of r.lists n ++ who ∷ []) (subst (λ (z : ℕ). n < z) (sym size) (low n refl)))
+lists_pushed (Some n) who r low size =
+    sym (list_changed r n (list_of r.lists n ++ who ∷ []) (subst (λ (z : ℕ). n < z) (sym size) (low n refl)))
 
 length_pushed : (told : Option ℕ) (who : ThreadId) (r : Ready) → length (pushed_by told who r).lists ≡ length r.lists
 length_pushed None who r = refl
@@ -96,7 +99,8 @@ module _ (w : World) (b : Board) (c i : ℕ) (a : Agrees b w) (f : Finding) (p :
 
   module _ (b' : Board) (q : At) (m : IsMoved b b' i q) where
     -- what the threads are after a turn
-    pub threads_after : (s : ℕ → Sight) (o : Option ℕ) → sights_of b' ≡ s → b'.table ≡ o → threads_of pri b' ≡ threads_by pri s (upd (looks_of b) i (look_at q)) o
+    pub threads_after : (s : ℕ → Sight) (o : Option ℕ) → sights_of b' ≡ s → b'.table ≡ o →
+        threads_of pri b' ≡ threads_by pri s (upd (looks_of b) i (look_at q)) o
     threads_after s o e t = λ z. threads_by pri (e z) (m.looks z) (t z)
 
     pub name_after : (o : Option ℕ) → b'.ready ≡ o → name_by b.size o ≡ name_by b'.size b'.ready
@@ -104,7 +108,8 @@ module _ (w : World) (b : Board) (c i : ℕ) (a : Agrees b w) (f : Finding) (p :
 
     module _ (u : IsUnready b b') where
       -- A step that leaves the ready lock alone agrees, where it makes of the threads what the board has.
-      pub agrees_by : (v : World) → v.ready_owner ≡ W.ready_owner → v.lists ≡ W.lists → v.running ≡ W.running → v.threads ≡ threads_of v.threads.priority b'
+      pub agrees_by : (v : World) → v.ready_owner ≡ W.ready_owner → v.lists ≡ W.lists → v.running ≡ W.running →
+          v.threads ≡ threads_of v.threads.priority b'
           → PrioritiesAre v.threads.priority (sights_of b') → Agrees b' v
       agrees_by v r l n t y = record {
         threads = t;
@@ -124,7 +129,8 @@ module _ (w : World) (b : Board) (c i : ℕ) (a : Agrees b w) (f : Finding) (p :
         kind = tt;
         grants = (k.table, k.ready, k.keeps);
         agrees = agrees_by _ refl refl refl
-            (sym (threads_after (sights_of b) b.table e t ∙ holding_is pri (sights_of b) (looks_of b) b.table i (look_at q) (look_at q).locks k.about k.same))
+            (sym (threads_after (sights_of b) b.table e t ∙ holding_is pri (sights_of b) (looks_of b) b.table i (look_at q)
+            (look_at q).locks k.about k.same))
             (priorities_same e);
       }
         where
@@ -132,12 +138,17 @@ module _ (w : World) (b : Board) (c i : ℕ) (a : Agrees b w) (f : Finding) (p :
           k = subst (λ (x : At). IsQuiet x q) (sym at) h
 
       unmoved : sights_of b' ≡ sights_of b → b'.table ≡ b.table → look_at q ≡ look_at p → threads_of pri b ≡ threads_of pri b'
-      unmoved e t h = sym (threads_after (sights_of b) b.table e t ∙ (λ z. threads_by pri (sights_of b) (look_kept (h ∙ ap look_at (sym at)) z) b.table))
+      unmoved e t h =
+          sym (threads_after (sights_of b) b.table e t ∙ (λ z.
+          threads_by pri (sights_of b) (look_kept (h ∙ ap look_at (sym at)) z) b.table))
         where
           look_kept : look_at q ≡ looks_of b i → upd (looks_of b) i (look_at q) ≡ looks_of b
-          look_kept d = λ z t. (upd_cases (λ (x : Look). x ≡ looks_of b t) (looks_of b) i (look_at q) t (λ k. d ∙ ap (looks_of b) (sym k)) (λ k. refl)) z
+          look_kept d =
+              λ z t. (upd_cases (λ (x : Look). x ≡ looks_of b t) (looks_of b) i (look_at q) t (λ k. d ∙ ap (looks_of b) (sym k))
+              (λ k. refl)) z
 
-      pub waits_by : IsWait f.waits → sights_of b' ≡ sights_of b → b'.table ≡ b.table → look_at q ≡ look_at p → (look_at p).locks.ready ≡ false → IsGranted b' W c i f true
+      pub waits_by : IsWait f.waits → sights_of b' ≡ sights_of b → b'.table ≡ b.table → look_at q ≡ look_at p →
+          (look_at p).locks.ready ≡ false → IsGranted b' W c i f true
       waits_by k e t h r = by f.waits k refl
         where
           by : (s : ThreadStep) → IsWait s → s ≡ f.waits → IsGranted b' W c i f true
@@ -147,11 +158,18 @@ module _ (w : World) (b : Board) (c i : ℕ) (a : Agrees b w) (f : Finding) (p :
             grants = ap (λ (x : At). (look_at x).locks.ready) at ∙ r;
             agrees = agrees_by _ refl refl refl (unmoved e t h) (priorities_same e);
           }
-          by FindsTaken k z = record { step = FindsTaken; kind = z; grants = tt; agrees = agrees_by _ refl refl refl (unmoved e t h) (priorities_same e) }
+          by FindsTaken k z = record {
+            step = FindsTaken;
+            kind = z;
+            grants = tt;
+            agrees = agrees_by _ refl refl refl (unmoved e t h) (priorities_same e);
+          }
           by s k z = absurd k
 
-      pub turns_on : (who : ThreadId) (old new : StateWord) → (b.seen who.number).word ≡ old → sights_of b' ≡ upd (sights_of b) who.number (sight_of new)
-          → b'.table ≡ b.table → sight_of new ≡ record (sight_of old) { on = true } → old.version ≡ who.version → is_dead old ≡ false → old.on ≡ false
+      pub turns_on : (who : ThreadId) (old new : StateWord) → (b.seen who.number).word ≡ old →
+          sights_of b' ≡ upd (sights_of b) who.number (sight_of new)
+          → b'.table ≡ b.table → sight_of new ≡ record (sight_of old) { on = true } → old.version ≡ who.version →
+          is_dead old ≡ false → old.on ≡ false
           → is_ended old.state ≡ false → IsTurning p q who → IsGranted b' W c i f false
       turns_on who old new won e t n v d f en h = record {
         step = TurnsOn who;
@@ -177,28 +195,36 @@ module _ (w : World) (b : Board) (c i : ℕ) (a : Agrees b w) (f : Finding) (p :
           s : sight_of new ≡ record (sights_of b who.number) { on = true }
           s = n ∙ ap (λ (x : StateWord). record (sight_of x) { on = true }) (sym won)
 
-      pub acquires_table : sights_of b' ≡ sights_of b → b.table ≡ None → b'.table ≡ Some i → (look_at q).victim ≡ None → (look_at q).listed ≡ false
-          → (look_at q).making ≡ None → IsAbout (look_at p) (look_at q) (look_at p).condition (record (look_at p).locks { table = true }) (look_at p).push
+      pub acquires_table : sights_of b' ≡ sights_of b → b.table ≡ None → b'.table ≡ Some i → (look_at q).victim ≡ None →
+          (look_at q).listed ≡ false
+          → (look_at q).making ≡ None → IsAbout (look_at p) (look_at q) (look_at p).condition
+          (record (look_at p).locks { table = true }) (look_at p).push
           → IsGranted b' W c i f false
       acquires_table e free t v l n h = record {
         step = AcquiresTable;
         kind = tt;
         grants = free;
         agrees = agrees_by _ refl refl refl
-            (sym (threads_after (sights_of b) (Some i) e t ∙ acquired_is pri (sights_of b) (looks_of b) b.table i (look_at q) free v l n k))
+            (sym (threads_after (sights_of b) (Some i) e t ∙ acquired_is pri (sights_of b) (looks_of b) b.table i
+            (look_at q) free v l n k))
             (priorities_same e);
       }
         where
-          k : IsAbout (looks_of b i) (look_at q) (looks_of b i).condition (record (looks_of b i).locks { table = true }) (looks_of b i).push
-          k = subst (λ (x : At). IsAbout (look_at x) (look_at q) (look_at x).condition (record (look_at x).locks { table = true }) (look_at x).push) (sym at) h
+          k : IsAbout (looks_of b i) (look_at q) (looks_of b i).condition (record (looks_of b i).locks { table = true })
+              (looks_of b i).push
+          k =
+              subst (λ (x : At). IsAbout (look_at x) (look_at q) (look_at x).condition (record (look_at x).locks { table = true })
+              (look_at x).push) (sym at) h
 
-      pub dies : sights_of b' ≡ sights_of b → b'.table ≡ b.table → is_dead (b.seen i).word ≡ true → IsDying p q → IsGranted b' W c i f false
+      pub dies : sights_of b' ≡ sights_of b → b'.table ≡ b.table → is_dead (b.seen i).word ≡ true → IsDying p q →
+          IsGranted b' W c i f false
       dies e t d h = record {
         step = Dies;
         kind = tt;
         grants = (ap not d, k.table, k.ready, k.push);
         agrees = agrees_by _ refl refl refl
-            (sym (threads_after (sights_of b) b.table e t ∙ dead_is pri (sights_of b) (looks_of b) b.table i (look_at q) k.about k.same))
+            (sym (threads_after (sights_of b) b.table e t ∙ dead_is pri (sights_of b) (looks_of b) b.table i
+            (look_at q) k.about k.same))
             (priorities_same e);
       }
         where
@@ -207,12 +233,17 @@ module _ (w : World) (b : Board) (c i : ℕ) (a : Agrees b w) (f : Finding) (p :
 
       module _ (e : sights_of b' ≡ sights_of b) where
         unused_victim : (look_at p).victim ≡ None → b.table ≡ Some i → (threads_of pri b).victim ≡ None
-        unused_victim v t = ap (λ (o : Option ℕ). (threads_by pri (sights_of b) (looks_of b) o).victim) t ∙ ap (λ (x : At). (look_at x).victim) at ∙ v
+        unused_victim v t =
+            ap (λ (o : Option ℕ). (threads_by pri (sights_of b) (looks_of b) o).victim) t ∙ ap (λ (x : At). (look_at x).victim) at
+            ∙ v
 
         unused_making : (look_at p).making ≡ None → b.table ≡ Some i → (threads_of pri b).making ≡ None
-        unused_making v t = ap (λ (o : Option ℕ). (threads_by pri (sights_of b) (looks_of b) o).making) t ∙ ap (λ (x : At). (look_at x).making) at ∙ v
+        unused_making v t =
+            ap (λ (o : Option ℕ). (threads_by pri (sights_of b) (looks_of b) o).making) t ∙ ap (λ (x : At). (look_at x).making) at
+            ∙ v
 
-        pub releases_table : b.table ≡ Some i → b'.table ≡ None → (look_at p).victim ≡ None → (look_at p).listed ≡ false → (look_at p).making ≡ None
+        pub releases_table : b.table ≡ Some i → b'.table ≡ None → (look_at p).victim ≡ None → (look_at p).listed ≡ false →
+            (look_at p).making ≡ None
             → (look_at p).push ≡ None → (look_at p).locks.table ≡ true → (look_at q).locks.table ≡ false
             → (look_at q).locks.ready ≡ (look_at p).locks.ready
             → IsAbout (look_at p) (look_at q) (look_at p).condition (look_at q).locks (look_at p).push
@@ -228,8 +259,10 @@ module _ (w : World) (b : Board) (c i : ℕ) (a : Agrees b w) (f : Finding) (p :
             λ who d. absurd (nobody (sym (ap (λ (x : At). (look_at x).push) at ∙ u) ∙ d)),
           );
           agrees = agrees_by _ refl refl refl
-              (sym (threads_after (sights_of b) None e t ∙ released_is pri (sights_of b) (looks_of b) b.table i (look_at q) (look_at q).locks mine
-              (ap (λ (x : At). (look_at x).victim) at ∙ v) (ap (λ (x : At). (look_at x).listed) at ∙ l) (ap (λ (x : At). (look_at x).making) at ∙ n) k))
+              (sym (threads_after (sights_of b) None e t ∙ released_is pri (sights_of b) (looks_of b) b.table i (look_at q)
+              (look_at q).locks mine
+              (ap (λ (x : At). (look_at x).victim) at ∙ v) (ap (λ (x : At). (look_at x).listed) at ∙ l)
+              (ap (λ (x : At). (look_at x).making) at ∙ n) k))
               (priorities_same e);
         }
           where
@@ -237,17 +270,22 @@ module _ (w : World) (b : Board) (c i : ℕ) (a : Agrees b w) (f : Finding) (p :
             nobody z = cc
 
             k : IsAbout (looks_of b i) (look_at q) (looks_of b i).condition (look_at q).locks (looks_of b i).push
-            k = subst (λ (x : At). IsAbout (look_at x) (look_at q) (look_at x).condition (look_at q).locks (look_at x).push) (sym at) h
+            k =
+                subst (λ (x : At). IsAbout (look_at x) (look_at q) (look_at x).condition (look_at q).locks (look_at x).push)
+                (sym at) h
 
     -- The ready lock is acquired, or released.
-    pub acquires_ready : sights_of b' ≡ sights_of b → b'.table ≡ b.table → b.ready ≡ None → b'.ready ≡ Some i → b'.lists ≡ b.lists → i < b.size
+    pub acquires_ready : sights_of b' ≡ sights_of b → b'.table ≡ b.table → b.ready ≡ None → b'.ready ≡ Some i →
+        b'.lists ≡ b.lists → i < b.size
         → IsAcquiring p q → IsGranted b' W c i f false
     acquires_ready e t free r l inside h = record {
       step = AcquiresReady;
       kind = tt;
       grants = (ap (name_by b.size) free, k.locks);
       agrees = record {
-        threads = sym (threads_after (sights_of b) b.table e t ∙ holding_is pri (sights_of b) (looks_of b) b.table i (look_at q) (with_ready (looks_of b i).locks) k.about k.same);
+        threads =
+            sym (threads_after (sights_of b) b.table e t ∙ holding_is pri (sights_of b) (looks_of b) b.table i (look_at q)
+            (with_ready (looks_of b i).locks) k.about k.same);
         priorities = subst (PrioritiesAre pri) (sym e) a.priorities;
         ready = ap Some (sym named) ∙ name_after (Some i) r;
         lists = ap (λ (x : Ready). list_of x.lists) (sym l);
@@ -263,16 +301,21 @@ module _ (w : World) (b : Board) (c i : ℕ) (a : Agrees b w) (f : Finding) (p :
         named = grind (arith, nat_tests, inside)
 
     pub pushes : (who : ThreadId) (told : Option ℕ) → sights_of b' ≡ sights_of b → b'.table ≡ b.table → b'.ready ≡ None
-        → b'.lists ≡ pushed_by told who b.lists → Told (threads_of pri b) who told → IsPushing p q who → IsGranted b' W c i f false
+        → b'.lists ≡ pushed_by told who b.lists → Told (threads_of pri b) who told → IsPushing p q who →
+        IsGranted b' W c i f false
     pushes who told e t r l known h = record {
       step = Pushes told (look_at q).locks f.above;
       kind = refl;
       grants = (who, k.push, known, k.ready, k.table, k.free);
       agrees = record {
-        threads = sym (threads_after (sights_of b) b.table e t ∙ pushed_is pri (sights_of b) (looks_of b) b.table i (look_at q) (look_at q).locks k.about k.same);
+        threads =
+            sym (threads_after (sights_of b) b.table e t ∙ pushed_is pri (sights_of b) (looks_of b) b.table i (look_at q)
+            (look_at q).locks k.about k.same);
         priorities = subst (PrioritiesAre pri) (sym e) a.priorities;
         ready = name_after None r;
-        lists = ap (λ (o : Option ThreadId). listed_by (list_of b.lists.lists) o told) k.push ∙ lists_pushed told who b.lists (known_low told known) a.whole ∙ ap (λ (x : Ready). list_of x.lists) (sym l);
+        lists =
+            ap (λ (o : Option ThreadId). listed_by (list_of b.lists.lists) o told) k.push
+            ∙ lists_pushed told who b.lists (known_low told known) a.whole ∙ ap (λ (x : Ready). list_of x.lists) (sym l);
         whole = ap (λ (x : Ready). length x.lists) l ∙ length_pushed told who b.lists ∙ a.whole;
         running = sym (ap (λ (x : Ready). x.running) l ∙ running_pushed told who b.lists);
       };

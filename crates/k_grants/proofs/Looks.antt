@@ -10,7 +10,8 @@ use Rattle.k_grants.proofs.Granting.{IsAcquiring, IsDying, IsPushing, IsQuiet, I
 nobody_is : {who : ThreadId} {o : Option ThreadId} → o ≡ None → o ≡ Some who → ⊥
 nobody_is e d = cc
 
-about_by : (p q : At) (l : Look) → look_at q ≡ l → l.is_coming ≡ (look_at p).is_coming → IsAbout (look_at p) (look_at q) l.condition l.locks l.push
+about_by : (p q : At) (l : Look) → look_at q ≡ l → l.is_coming ≡ (look_at p).is_coming →
+    IsAbout (look_at p) (look_at q) l.condition l.locks l.push
 about_by p q l e c = record {
   condition = ap (λ (x : Look). x.condition) e;
   coming = ap (λ (x : Look). x.is_coming) e ∙ c;
@@ -18,7 +19,8 @@ about_by p q l e c = record {
   push = ap (λ (x : Look). x.push) e;
 }
 
-same_by : (p q : At) (l : Look) → look_at q ≡ l → l.victim ≡ (look_at p).victim → l.listed ≡ (look_at p).listed → l.making ≡ (look_at p).making → IsSame (look_at p) (look_at q)
+same_by : (p q : At) (l : Look) → look_at q ≡ l → l.victim ≡ (look_at p).victim → l.listed ≡ (look_at p).listed →
+    l.making ≡ (look_at p).making → IsSame (look_at p) (look_at q)
 same_by p q l e v d m = record {
   victim = ap (λ (x : Look). x.victim) e ∙ v;
   listed = ap (λ (x : Look). x.listed) e ∙ d;
@@ -51,7 +53,8 @@ module _ {p q : At} where
     push = n;
   }
 
-  pub turning : {who : ThreadId} → look_at q ≡ record (look_at p) { push = Some who } → (look_at p).push ≡ None → holds_any (look_at p).locks ≡ true
+  pub turning : {who : ThreadId} → look_at q ≡ record (look_at p) { push = Some who } → (look_at p).push ≡ None →
+      holds_any (look_at p).locks ≡ true
       → IsTurning p q who
   turning {who} e n k = record {
     about = about_by p q (record (look_at p) { push = Some who }) e refl;
@@ -60,15 +63,18 @@ module _ {p q : At} where
     locks = k;
   }
 
-  pub acquiring : look_at q ≡ record (look_at p) { locks = record (look_at p).locks { ready = true } } → holds_any (look_at p).locks ≡ true → IsAcquiring p q
+  pub acquiring : look_at q ≡ record (look_at p) { locks = record (look_at p).locks { ready = true } } →
+      holds_any (look_at p).locks ≡ true → IsAcquiring p q
   acquiring e k = record {
     about = about_by p q (record (look_at p) { locks = record (look_at p).locks { ready = true } }) e refl;
     same = same_by p q (record (look_at p) { locks = record (look_at p).locks { ready = true } }) e refl refl refl;
     locks = k;
   }
 
-  pub pushing : {who : ThreadId} → look_at q ≡ record (look_at p) { locks = (look_at q).locks; push = None } → (look_at p).push ≡ Some who
-      → (look_at p).locks.ready ≡ true → (look_at q).locks.table ≡ (look_at p).locks.table → (look_at q).locks.ready ≡ false → IsPushing p q who
+  pub pushing : {who : ThreadId} → look_at q ≡ record (look_at p) { locks = (look_at q).locks; push = None } →
+      (look_at p).push ≡ Some who
+      → (look_at p).locks.ready ≡ true → (look_at q).locks.table ≡ (look_at p).locks.table → (look_at q).locks.ready ≡ false →
+      IsPushing p q who
   pushing {who} e u r t f = record {
     about = about_by p q (record (look_at p) { locks = (look_at q).locks; push = None }) e refl;
     same = same_by p q (record (look_at p) { locks = (look_at q).locks; push = None }) e refl refl refl;

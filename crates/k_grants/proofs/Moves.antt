@@ -7,7 +7,8 @@ use Rattle.std.proofs.lemmas.Bool.Decides.{eqb_tells}
 use Rattle.k_tokens.specs.Maps.{id_at}
 use Rattle.k_tokens.specs.World.{Absent, Awake, Asleep, Ended, Dead, Condition, HeldLocks, no_locks, Threads}
 use Rattle.k_tokens.specs.Views.{by_owner}
-use Rattle.k_tokens.specs.Steps.{holding, turned_on, with_table, pushed, table_acquired, table_released, killed, unlisted, removed, placed, newly_made, fallen_asleep, at_end, found_dead}
+use Rattle.k_tokens.specs.Steps.{holding, turned_on, with_table, pushed, table_acquired, table_released, killed}
+use Rattle.k_tokens.specs.Steps.{unlisted, removed, placed, newly_made, fallen_asleep, at_end, found_dead}
 use Rattle.k_tokens.proofs.Views.{view_upd, view_stays, owner_stays, owner_sets}
 use Rattle.k_grants.specs.Views.{Look, Sight, made_by, plain, threads_by}
 
@@ -52,7 +53,9 @@ module _ (y : ℕ → ℕ) (s : ℕ → Sight) (l : ℕ → Look) (o : Option �
   T = threads_by y s l o
 
   made_stays : q.is_coming ≡ (l i).is_coming → ◌≡◌ {A = ℕ → ℕ} (λ t. made_by (upd l i q t).is_coming (s t).version) T.made
-  made_stays e = made_is (λ t. (upd l i q t).is_coming) (λ t. (l t).is_coming) T.version T.version (view_stays (λ (x : Look). x.is_coming) l i q e) refl
+  made_stays e =
+      made_is (λ t. (upd l i q t).is_coming) (λ t. (l t).is_coming) T.version T.version
+      (view_stays (λ (x : Look). x.is_coming) l i q e) refl
 
   victim_stays : (o ≡ Some i → q.victim ≡ (l i).victim) → by_owner None (λ (x : Look). x.victim) (upd l i q) o ≡ T.victim
   victim_stays e = owner_stays None (λ (x : Look). x.victim) l o i q e
@@ -67,7 +70,8 @@ module _ (y : ℕ → ℕ) (s : ℕ → Sight) (l : ℕ → Look) (o : Option �
     locks_set : q.locks ≡ held → ◌≡◌ {A = ℕ → HeldLocks} (λ t. (upd l i q t).locks) (upd T.locks i held)
     locks_set e = view_upd (λ (x : Look). x.locks) l i q ∙ ap (upd T.locks i) e
 
-    pub holding_is : IsAbout (l i) q (l i).condition held (l i).push → IsSame (l i) q → threads_by y s (upd l i q) o ≡ holding T i held
+    pub holding_is : IsAbout (l i) q (l i).condition held (l i).push → IsSame (l i) q →
+        threads_by y s (upd l i q) o ≡ holding T i held
     holding_is e k = threads_are refl refl refl refl refl
         (view_stays (λ (x : Look). x.condition) l i q e.condition)
         (made_stays e.coming)
@@ -108,7 +112,8 @@ module _ (y : ℕ → ℕ) (s : ℕ → Sight) (l : ℕ → Look) (o : Option �
         (making_stays (λ z. n))
 
   pub acquired_is : o ≡ None → q.victim ≡ None → q.listed ≡ false → q.making ≡ None
-      → IsAbout (l i) q (l i).condition (with_table (l i).locks) (l i).push → threads_by y s (upd l i q) (Some i) ≡ table_acquired T i
+      → IsAbout (l i) q (l i).condition (with_table (l i).locks) (l i).push →
+      threads_by y s (upd l i q) (Some i) ≡ table_acquired T i
   acquired_is at v f n e = threads_are refl refl refl refl refl
       (view_stays (λ (x : Look). x.condition) l i q e.condition)
       (made_stays e.coming)
@@ -116,7 +121,8 @@ module _ (y : ℕ → ℕ) (s : ℕ → Sight) (l : ℕ → Look) (o : Option �
       (view_stays (λ (x : Look). x.push) l i q e.push)
       refl
       (owner_sets None (λ (x : Look). x.victim) l (Some i) i q refl ∙ v ∙ sym (ap (by_owner None (λ (x : Look). x.victim) l) at))
-      (owner_sets false (λ (x : Look). x.listed) l (Some i) i q refl ∙ f ∙ sym (ap (by_owner false (λ (x : Look). x.listed) l) at))
+      (owner_sets false (λ (x : Look). x.listed) l (Some i) i q refl ∙ f
+      ∙ sym (ap (by_owner false (λ (x : Look). x.listed) l) at))
       (owner_sets None (λ (x : Look). x.making) l (Some i) i q refl ∙ n ∙ sym (ap (by_owner None (λ (x : Look). x.making) l) at))
 
   pub dead_is : IsAbout (l i) q Dead no_locks (l i).push → IsSame (l i) q → threads_by y s (upd l i q) o ≡ found_dead T i
@@ -131,7 +137,9 @@ module _ (y : ℕ → ℕ) (s : ℕ → Sight) (l : ℕ → Look) (o : Option �
   module _ (n : ℕ) (v : Sight) where
     word_made : v.version ≡ (s n).version → q.is_coming ≡ (l i).is_coming
         → ◌≡◌ {A = ℕ → ℕ} (λ t. made_by (upd l i q t).is_coming (upd s n v t).version) T.made
-    word_made k e = made_is (λ t. (upd l i q t).is_coming) (λ t. (l t).is_coming) (λ t. (upd s n v t).version) T.version (view_stays (λ (x : Look). x.is_coming) l i q e) (view_stays (λ (x : Sight). x.version) s n v k)
+    word_made k e =
+        made_is (λ t. (upd l i q t).is_coming) (λ t. (l t).is_coming) (λ t. (upd s n v t).version) T.version
+        (view_stays (λ (x : Look). x.is_coming) l i q e) (view_stays (λ (x : Sight). x.version) s n v k)
 
     pub turned_is : (who : ThreadId) → who.number ≡ n → v ≡ record (s n) { on = true }
         → IsAbout (l i) q (l i).condition (l i).locks (Some who) → IsSame (l i) q
@@ -139,7 +147,8 @@ module _ (y : ℕ → ℕ) (s : ℕ → Sight) (l : ℕ → Look) (o : Option �
     turned_is who number d e k = threads_are
         (view_stays (λ (x : Sight). x.version) s n v (ap (λ (x : Sight). x.version) d))
         (view_stays (λ (x : Sight). x.present) s n v (ap (λ (x : Sight). x.present) d))
-        (view_upd (λ (x : Sight). x.on) s n v ∙ ap (λ (x : Sight). upd T.on n x.on) d ∙ ap (λ (t : ℕ). upd T.on t true) (sym number))
+        (view_upd (λ (x : Sight). x.on) s n v ∙ ap (λ (x : Sight). upd T.on n x.on) d
+        ∙ ap (λ (t : ℕ). upd T.on t true) (sym number))
         (view_stays (λ (x : Sight). x.ended) s n v (ap (λ (x : Sight). x.ended) d))
         refl
         (view_stays (λ (x : Look). x.condition) l i q e.condition)
@@ -198,26 +207,32 @@ module _ (y : ℕ → ℕ) (s : ℕ → Sight) (l : ℕ → Look) (o : Option �
 
   -- Another context is placed, removed, or its thread is made.
   module _ (n : ℕ) (x : Look) (ne : i ≢ n) where
-    both_stay : {A : Type 0} (h : Look → A) → h q ≡ h (l i) → h x ≡ h (l n) → ◌≡◌ {A = ℕ → A} (λ t. h (upd (upd l n x) i q t)) (λ t. h (l t))
+    both_stay : {A : Type 0} (h : Look → A) → h q ≡ h (l i) → h x ≡ h (l n) →
+        ◌≡◌ {A = ℕ → A} (λ t. h (upd (upd l n x) i q t)) (λ t. h (l t))
     both_stay h e d = view_stays h (upd l n x) i q (e ∙ sym (ap h (upd_other l n x i ne))) ∙ view_stays h l n x d
 
-    other_set : {A : Type 0} (h : Look → A) → h q ≡ h (l i) → ◌≡◌ {A = ℕ → A} (λ t. h (upd (upd l n x) i q t)) (upd (λ t. h (l t)) n (h x))
+    other_set : {A : Type 0} (h : Look → A) → h q ≡ h (l i) →
+        ◌≡◌ {A = ℕ → A} (λ t. h (upd (upd l n x) i q t)) (upd (λ t. h (l t)) n (h x))
     other_set h e = view_stays h (upd l n x) i q (e ∙ sym (ap h (upd_other l n x i ne))) ∙ view_upd h l n x
 
-    pub removed_is : (who : ThreadId) → who.number ≡ n → o ≡ Some i → x ≡ plain Absent → (l n).is_coming ≡ false → (l n).locks ≡ no_locks
+    pub removed_is : (who : ThreadId) → who.number ≡ n → o ≡ Some i → x ≡ plain Absent → (l n).is_coming ≡ false →
+        (l n).locks ≡ no_locks
         → (l n).push ≡ None → q.victim ≡ None → q.listed ≡ (l i).listed → q.making ≡ (l i).making
         → IsAbout (l i) q (l i).condition (l i).locks (l i).push
         → threads_by y s (upd (upd l n x) i q) o ≡ removed T who
     removed_is who number at is c k u v f m e = threads_are refl refl refl refl refl
         (other_set (λ (z : Look). z.condition) e.condition ∙ ap (λ (z : Look). upd T.condition n z.condition) is
         ∙ ap (λ (t : ℕ). upd T.condition t Absent) (sym number))
-        (made_is _ _ T.version T.version (both_stay (λ (z : Look). z.is_coming) e.coming (ap (λ (z : Look). z.is_coming) is ∙ sym c)) refl)
+        (made_is _ _ T.version T.version (both_stay (λ (z : Look). z.is_coming) e.coming
+        (ap (λ (z : Look). z.is_coming) is ∙ sym c)) refl)
         (both_stay (λ (z : Look). z.locks) e.locks (ap (λ (z : Look). z.locks) is ∙ sym k))
         (both_stay (λ (z : Look). z.push) e.push (ap (λ (z : Look). z.push) is ∙ sym u))
         refl
         (owner_sets None (λ (z : Look). z.victim) (upd l n x) o i q at ∙ v)
-        (owner_sets false (λ (z : Look). z.listed) (upd l n x) o i q at ∙ f ∙ sym (ap (by_owner false (λ (z : Look). z.listed) l) at))
-        (owner_sets None (λ (z : Look). z.making) (upd l n x) o i q at ∙ m ∙ sym (ap (by_owner None (λ (z : Look). z.making) l) at))
+        (owner_sets false (λ (z : Look). z.listed) (upd l n x) o i q at ∙ f
+        ∙ sym (ap (by_owner false (λ (z : Look). z.listed) l) at))
+        (owner_sets None (λ (z : Look). z.making) (upd l n x) o i q at ∙ m
+        ∙ sym (ap (by_owner None (λ (z : Look). z.making) l) at))
 
     pub placed_is : o ≡ Some i → x ≡ record (plain Awake) { is_coming = true } → l n ≡ plain Absent
         → q.victim ≡ (l i).victim → q.listed ≡ (l i).listed → q.making ≡ Some n
@@ -229,20 +244,27 @@ module _ (y : ℕ → ℕ) (s : ℕ → Sight) (l : ℕ → Look) (o : Option �
         (both_stay (λ (z : Look). z.locks) e.locks (ap (λ (z : Look). z.locks) is ∙ sym (ap (λ (z : Look). z.locks) old)))
         (both_stay (λ (z : Look). z.push) e.push (ap (λ (z : Look). z.push) is ∙ sym (ap (λ (z : Look). z.push) old)))
         refl
-        (owner_sets None (λ (z : Look). z.victim) (upd l n x) o i q at ∙ v ∙ sym (ap (by_owner None (λ (z : Look). z.victim) l) at))
-        (owner_sets false (λ (z : Look). z.listed) (upd l n x) o i q at ∙ f ∙ sym (ap (by_owner false (λ (z : Look). z.listed) l) at))
+        (owner_sets None (λ (z : Look). z.victim) (upd l n x) o i q at ∙ v
+        ∙ sym (ap (by_owner None (λ (z : Look). z.victim) l) at))
+        (owner_sets false (λ (z : Look). z.listed) (upd l n x) o i q at ∙ f
+        ∙ sym (ap (by_owner false (λ (z : Look). z.listed) l) at))
         (owner_sets None (λ (z : Look). z.making) (upd l n x) o i q at ∙ m)
       where
         coming : (t : ℕ) → (upd (upd l n x) i q t).is_coming ≡ upd (λ u. (l u).is_coming) n true t
-        coming t = ap (λ (f : ℕ → Bool). f t) (other_set (λ (z : Look). z.is_coming) e.coming) ∙ ap (λ (z : Look). upd (λ u. (l u).is_coming) n z.is_coming t) is
+        coming t =
+            ap (λ (f : ℕ → Bool). f t) (other_set (λ (z : Look). z.is_coming) e.coming)
+            ∙ ap (λ (z : Look). upd (λ u. (l u).is_coming) n z.is_coming t) is
 
         made : (t : ℕ) → made_by (upd (upd l n x) i q t).is_coming (s t).version ≡ upd T.made n ((s n).version + 1) t
         made t = ap (λ (c : Bool). made_by c (s t).version) (coming t)
-            ∙ upd_cases (λ (c : Bool). made_by c (s t).version ≡ upd T.made n ((s n).version + 1) t) (λ u. (l u).is_coming) n true t
-            (λ d. ap (λ (k : ℕ). (s k).version + 1) d ∙ sym (ap (upd T.made n ((s n).version + 1)) d ∙ upd_same T.made n ((s n).version + 1)))
+            ∙ upd_cases (λ (c : Bool). made_by c (s t).version ≡ upd T.made n ((s n).version + 1) t)
+            (λ u. (l u).is_coming) n true t
+            (λ d. ap (λ (k : ℕ). (s k).version + 1) d ∙ sym (ap (upd T.made n ((s n).version + 1)) d
+            ∙ upd_same T.made n ((s n).version + 1)))
             (λ d. sym (upd_other T.made n ((s n).version + 1) t d))
 
-    pub newly_made_is : (v : Sight) (priority : ℕ) → o ≡ Some i → x ≡ plain Awake → l n ≡ record (plain Awake) { is_coming = true }
+    pub newly_made_is : (v : Sight) (priority : ℕ) → o ≡ Some i → x ≡ plain Awake →
+        l n ≡ record (plain Awake) { is_coming = true }
         → v.version ≡ (s n).version + 1 → v.present ≡ true → v.on ≡ true → v.ended ≡ false
         → q.victim ≡ (l i).victim → q.listed ≡ (l i).listed → q.making ≡ None
         → IsAbout (l i) q (l i).condition (l i).locks (Some (id_at n ((s n).version + 1)))
@@ -253,18 +275,24 @@ module _ (y : ℕ → ℕ) (s : ℕ → Sight) (l : ℕ → Look) (o : Option �
         (view_upd (λ (z : Sight). z.on) s n v ∙ ap (upd T.on n) u)
         (view_upd (λ (z : Sight). z.ended) s n v ∙ ap (upd T.ended n) d)
         refl
-        (both_stay (λ (z : Look). z.condition) e.condition (ap (λ (z : Look). z.condition) is ∙ sym (ap (λ (z : Look). z.condition) old)))
+        (both_stay (λ (z : Look). z.condition) e.condition (ap (λ (z : Look). z.condition) is
+        ∙ sym (ap (λ (z : Look). z.condition) old)))
         (λ z t. made t z)
         (both_stay (λ (z : Look). z.locks) e.locks (ap (λ (z : Look). z.locks) is ∙ sym (ap (λ (z : Look). z.locks) old)))
         (view_upd (λ (z : Look). z.push) (upd l n x) i q ∙ ap (upd (λ t. (upd l n x t).push) i) e.push
-        ∙ ap (λ (g : ℕ → Option ThreadId). upd g i (Some (id_at n ((s n).version + 1)))) (view_stays (λ (z : Look). z.push) l n x (ap (λ (z : Look). z.push) is ∙ sym (ap (λ (z : Look). z.push) old))))
+        ∙ ap (λ (g : ℕ → Option ThreadId). upd g i (Some (id_at n ((s n).version + 1))))
+        (view_stays (λ (z : Look). z.push) l n x (ap (λ (z : Look). z.push) is ∙ sym (ap (λ (z : Look). z.push) old))))
         refl
-        (owner_sets None (λ (z : Look). z.victim) (upd l n x) o i q at ∙ w ∙ sym (ap (by_owner None (λ (z : Look). z.victim) l) at))
-        (owner_sets false (λ (z : Look). z.listed) (upd l n x) o i q at ∙ f ∙ sym (ap (by_owner false (λ (z : Look). z.listed) l) at))
+        (owner_sets None (λ (z : Look). z.victim) (upd l n x) o i q at ∙ w
+        ∙ sym (ap (by_owner None (λ (z : Look). z.victim) l) at))
+        (owner_sets false (λ (z : Look). z.listed) (upd l n x) o i q at ∙ f
+        ∙ sym (ap (by_owner false (λ (z : Look). z.listed) l) at))
         (owner_sets None (λ (z : Look). z.making) (upd l n x) o i q at ∙ m)
       where
         coming : (t : ℕ) → (upd (upd l n x) i q t).is_coming ≡ upd (λ u. (l u).is_coming) n false t
-        coming t = ap (λ (f : ℕ → Bool). f t) (other_set (λ (z : Look). z.is_coming) e.coming) ∙ ap (λ (z : Look). upd (λ u. (l u).is_coming) n z.is_coming t) is
+        coming t =
+            ap (λ (f : ℕ → Bool). f t) (other_set (λ (z : Look). z.is_coming) e.coming)
+            ∙ ap (λ (z : Look). upd (λ u. (l u).is_coming) n z.is_coming t) is
 
         version : (t : ℕ) → (upd s n v t).version ≡ upd T.version n ((s n).version + 1) t
         version t = ap (λ (f : ℕ → ℕ). f t) (view_upd (λ (z : Sight). z.version) s n v ∙ ap (upd T.version n) k)
@@ -274,7 +302,12 @@ module _ (y : ℕ → ℕ) (s : ℕ → Sight) (l : ℕ → Look) (o : Option �
           where
             by : (t : ℕ) → made_by (upd (λ u. (l u).is_coming) n false t) (upd T.version n ((s n).version + 1) t) ≡ T.made t
             by t = elim (eqb_tells t n) [
-              | inl d ↦ subst (λ (j : ℕ). made_by (upd (λ u. (l u).is_coming) n false j) (upd T.version n ((s n).version + 1) j) ≡ T.made j) (sym d.1)
-                  ((λ z. made_by (upd_same (λ u. (l u).is_coming) n false z) (upd_same T.version n ((s n).version + 1) z)) ∙ sym (ap (λ (y : Look). made_by y.is_coming (s n).version) old))
-              | inr d ↦ (λ z. made_by (upd_other (λ u. (l u).is_coming) n false t d.1 z) (upd_other T.version n ((s n).version + 1) t d.1 z))
+              | inl d ↦
+                  subst (λ (j : ℕ). made_by (upd (λ u. (l u).is_coming) n false j) (upd T.version n ((s n).version + 1) j) ≡
+                  T.made j) (sym d.1)
+                  ((λ z. made_by (upd_same (λ u. (l u).is_coming) n false z) (upd_same T.version n ((s n).version + 1) z))
+                  ∙ sym (ap (λ (y : Look). made_by y.is_coming (s n).version) old))
+              | inr d ↦
+                  (λ z. made_by (upd_other (λ u. (l u).is_coming) n false t d.1 z)
+                  (upd_other T.version n ((s n).version + 1) t d.1 z))
             ]

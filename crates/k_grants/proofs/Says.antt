@@ -36,7 +36,8 @@ module _ (seen : ℕ → Seen) (threads : Threads) where
   send_silent c p e = tt
 
   receive_silent : (p : ReceiveAt) → receive_push p ≡ None → ReceivePushes seen threads p
-  receive_silent (receive.Locked (receive_locked.EndPick f w)) e = λ s. absurd (some_none (sym (ap (λ (b : Bool). cond b None (Some (sender_of f))) s) ∙ e))
+  receive_silent (receive.Locked (receive_locked.EndPick f w)) e =
+      λ s. absurd (some_none (sym (ap (λ (b : Bool). cond b None (Some (sender_of f))) s) ∙ e))
     where
       some_none : {who : ThreadId} → Some who ≡ None → ⊥
       some_none z = cc
@@ -73,5 +74,6 @@ pub record Turned (b' : Board) (w : World) (c i : ℕ) (f : Finding) (again : Bo
   pub granted : IsGranted b' w c i f again
   pub says : PushSays b'.seen (board_threads b') q
 
-pub silently : {b' : Board} {w : World} {c i : ℕ} {f : Finding} {again : Bool} {q : At} → IsGranted b' w c i f again → (look_at q).push ≡ None → Turned b' w c i f again q
+pub silently : {b' : Board} {w : World} {c i : ℕ} {f : Finding} {again : Bool} {q : At} → IsGranted b' w c i f again →
+    (look_at q).push ≡ None → Turned b' w c i f again q
 silently {b'} {w} {c} {i} {f} {again} {q} h e = record { granted = h; says = says_nothing b'.seen (board_threads b') q e }

@@ -24,11 +24,13 @@ words s t = (s t).word
 pub words_after : (g : Programs) (b : Board) (at : Position) (p : Option Point) (a : Ask) (r : Response) → Answers b a r
     → ◌≡◌ {A = ℕ → StateWord} (λ t. (wrote (noted g b.seen at p) a r t).word) (written (λ t. (b.seen t).word) a r)
 words_after g b at p (asks.Exchange n old new) asks.Won an =
-    view_upd (λ (v : Seen). v.word) (noted g b.seen at p) n _ ∙ ap (λ (f : ℕ → StateWord). upd f n new) (λ z t. noted_word g b.seen at p t z)
+    view_upd (λ (v : Seen). v.word) (noted g b.seen at p) n _
+    ∙ ap (λ (f : ℕ → StateWord). upd f n new) (λ z t. noted_word g b.seen at p t z)
 words_after g b at p (asks.Exchange n old new) (asks.Lost w) an = λ z t. noted_word g b.seen at p t z
 words_after g b at p (asks.Load n) (asks.Word w) an = λ z t. noted_word g b.seen at p t z
 words_after g b at p (asks.LoadMail n) (asks.Mail m) an = λ z t. noted_word g b.seen at p t z
-words_after g b at p (asks.Post n m) asks.Stored an = λ z t. (word_upd (noted g b.seen at p) n (record (noted g b.seen at p n) { mail = m }) refl t ∙ noted_word g b.seen at p t) z
+words_after g b at p (asks.Post n m) asks.Stored an =
+    λ z t. (word_upd (noted g b.seen at p) n (record (noted g b.seen at p n) { mail = m }) refl t ∙ noted_word g b.seen at p t) z
 words_after g b at p (asks.Acquire l) asks.Got an = λ z t. noted_word g b.seen at p t z
 words_after g b at p (asks.Acquire l) (asks.Owned k) an = λ z t. noted_word g b.seen at p t z
 words_after g b at p (asks.Release l) asks.Released an = λ z t. noted_word g b.seen at p t z
@@ -46,7 +48,8 @@ pub sights_after : (g : Programs) (b : Board) (at : Position) (p : Option Point)
     → ◌≡◌ {A = ℕ → Sight} (λ t. sight_of (wrote (noted g b.seen at p) a r t).word) (sighted (λ t. sight_of (b.seen t).word) a r)
 sights_after g b at p a r an = ap (λ (f : ℕ → StateWord). λ t. sight_of (f t)) (words_after g b at p a r an) ∙ by a r an
   where
-    by : (a : Ask) (r : Response) → Answers b a r → ◌≡◌ {A = ℕ → Sight} (λ t. sight_of (written (λ u. (b.seen u).word) a r t)) (sighted (λ t. sight_of (b.seen t).word) a r)
+    by : (a : Ask) (r : Response) → Answers b a r → ◌≡◌ {A = ℕ → Sight} (λ t. sight_of (written (λ u. (b.seen u).word) a r t))
+        (sighted (λ t. sight_of (b.seen t).word) a r)
     by (asks.Exchange n old new) asks.Won an = view_upd sight_of (λ u. (b.seen u).word) n new
     by (asks.Exchange n old new) (asks.Lost w) an = refl
     by (asks.Load n) (asks.Word w) an = refl
@@ -66,13 +69,15 @@ sight_kept s n v e = λ z t. (upd_cases (λ (x : Sight). x ≡ s t) s n v t (λ 
 
 -- PRIORITIES, of threads that are there
 
-pub priorities_keep : (y : ℕ → ℕ) (s : ℕ → Sight) (n : ℕ) (v : Sight) → (v.present ≡ true → ((s n).present ≡ true) × (v.priority ≡ (s n).priority))
+pub priorities_keep : (y : ℕ → ℕ) (s : ℕ → Sight) (n : ℕ) (v : Sight) →
+    (v.present ≡ true → ((s n).present ≡ true) × (v.priority ≡ (s n).priority))
     → PrioritiesAre y s → PrioritiesAre y (upd s n v)
 priorities_keep y s n v e h t =
     upd_cases (λ (x : Sight). x.present ≡ true → y t ≡ x.priority) s n v t
     (λ d p. ap y d ∙ h n (e p).0 ∙ sym (e p).1) (λ d p. h t p)
 
-pub priorities_set : (y : ℕ → ℕ) (s : ℕ → Sight) (n : ℕ) (v : Sight) → PrioritiesAre y s → PrioritiesAre (upd y n v.priority) (upd s n v)
+pub priorities_set : (y : ℕ → ℕ) (s : ℕ → Sight) (n : ℕ) (v : Sight) → PrioritiesAre y s →
+    PrioritiesAre (upd y n v.priority) (upd s n v)
 priorities_set y s n v h t =
     upd_cases (λ (x : Sight). x.present ≡ true → upd y n v.priority t ≡ x.priority) s n v t
     (λ d p. ap (upd y n v.priority) d ∙ upd_same y n v.priority) (λ d p. upd_other y n v.priority t d ∙ h t p)

@@ -1,6 +1,7 @@
 -- What the words that sections write show.
 use Rattle.std.specs.Prelude.{◌==◌, ◌&&◌}
-use Rattle.std.proofs.Common.{◌≡◌, ℕ, ◌<◌, Bool, true, false, refl, sym, ap, ◌∙◌, subst, Some, None, not, cond, arith, ◌⊎◌, inl, inr}
+use Rattle.std.proofs.Common.{◌≡◌, ℕ, ◌<◌, Bool, true, false, refl, sym, ap, ◌∙◌}
+use Rattle.std.proofs.Common.{subst, Some, None, not, cond, arith, ◌⊎◌, inl, inr}
 use Rattle.std.proofs.lemmas.Bool.Decides.{nat_tests}
 use Rattle.k_ids.specs.declared.threads.ThreadId.{ThreadId}
 use Rattle.k_ids.specs.declared.state_word.State.{State}
@@ -53,24 +54,30 @@ runs_alive state.Ended e = refl
 
 -- SIGHTS
 
-pub sight_same : (w : StateWord) (s : State) (on : Bool) → on ≡ w.on → is_dead_state s ≡ is_dead_state w.state → is_ended s ≡ is_ended w.state
+pub sight_same : (w : StateWord) (s : State) (on : Bool) → on ≡ w.on → is_dead_state s ≡ is_dead_state w.state →
+    is_ended s ≡ is_ended w.state
     → sight_of (record w { on = on; state = s }) ≡ sight_of w
 sight_same w s on o d e = λ z. record { version = w.version; present = not (d z); on = o z; ended = e z; priority = w.priority }
 
-pub in_state_same : (w : StateWord) (s : State) → is_dead_state s ≡ is_dead_state w.state → is_ended s ≡ is_ended w.state → sight_of (in_state s w) ≡ sight_of w
+pub in_state_same : (w : StateWord) (s : State) → is_dead_state s ≡ is_dead_state w.state → is_ended s ≡ is_ended w.state →
+    sight_of (in_state s w) ≡ sight_of w
 in_state_same w s d e = sight_same w s w.on refl d e
 
 -- one that runs, and so another that does neither lie dead nor at its end
-pub run_same : (w : StateWord) (s : State) → IsRun w → is_dead_state s ≡ false → is_ended s ≡ false → sight_of (in_state s w) ≡ sight_of w
+pub run_same : (w : StateWord) (s : State) → IsRun w → is_dead_state s ≡ false → is_ended s ≡ false →
+    sight_of (in_state s w) ≡ sight_of w
 run_same w s r d e = in_state_same w s (d ∙ sym (ap is_dead_state r.state)) (e ∙ sym (ap is_ended r.state))
 
-pub on_same : (w : StateWord) (s : State) → w.on ≡ true → is_dead w ≡ false → is_ended w.state ≡ false → is_dead_state s ≡ false → is_ended s ≡ false
+pub on_same : (w : StateWord) (s : State) → w.on ≡ true → is_dead w ≡ false → is_ended w.state ≡ false → is_dead_state s ≡ false →
+    is_ended s ≡ false
     → sight_of (on_in s w) ≡ sight_of w
 on_same w s o d e ds es = sight_same w s true (sym o) (ds ∙ sym d) (es ∙ sym e)
 
-pub turned_on_by : (w : StateWord) (s : State) → is_dead w ≡ false → is_ended w.state ≡ false → is_dead_state s ≡ false → is_ended s ≡ false
+pub turned_on_by : (w : StateWord) (s : State) → is_dead w ≡ false → is_ended w.state ≡ false → is_dead_state s ≡ false →
+    is_ended s ≡ false
     → sight_of (on_in s w) ≡ record (sight_of w) { on = true }
-turned_on_by w s d e ds es = λ z. record { version = w.version; present = not ((ds ∙ sym d) z); on = true; ended = (es ∙ sym e) z; priority = w.priority }
+turned_on_by w s d e ds es =
+    λ z. record { version = w.version; present = not ((ds ∙ sym d) z); on = true; ended = (es ∙ sym e) z; priority = w.priority }
 
 pub passed_same : (m : Manner) (to : ThreadId) (w : StateWord) → IsRun w → sight_of (passed_word m to w) ≡ sight_of w
 passed_same manner.Plain to w r = run_same w (state.Run result4.Sent) r refl refl
@@ -89,7 +96,8 @@ module _ (y : ℕ → ℕ) (b : Board) (who : ThreadId) where
   pub on_present : IsOn (word_at b.seen who) who → is_present (threads_of y b) who ≡ true
   on_present o = there (word_at b.seen who) o.version (runs_alive _ o.running)
     where
-      there : (w : StateWord) → w.version ≡ who.version → is_dead w ≡ false → (not (is_dead w) && (w.version == who.version)) ≡ true
+      there : (w : StateWord) → w.version ≡ who.version → is_dead w ≡ false →
+          (not (is_dead w) && (w.version == who.version)) ≡ true
       there w v d = grind (arith, nat_tests)
 
   pub killed_absent : WasKilled (word_at b.seen who) who → is_present (threads_of y b) who ≡ false
@@ -102,9 +110,15 @@ module _ (y : ℕ → ℕ) (b : Board) (who : ThreadId) where
       gone : (w : StateWord) → is_dead w ≡ true → (not (is_dead w) && (w.version == who.version)) ≡ false
       gone w v = grind (arith, nat_tests)
 
-  pub told_on : (n : ℕ) → ((t : ℕ) → y t < 64) → PrioritiesAre y (sights_of b) → IsOnAt (word_at b.seen who) who n → Told (threads_of y b) who (Some n)
+  pub told_on : (n : ℕ) → ((t : ℕ) → y t < 64) → PrioritiesAre y (sights_of b) → IsOnAt (word_at b.seen who) who n →
+      Told (threads_of y b) who (Some n)
   told_on n low agree o = record {
-    shown = λ p e. (subst (λ (x : ℕ). x < 64) (agree who.number (ap not (runs_alive _ o.0.running)) ∙ o.1 ∙ some_is e) (low who.number), inl (on_present o.0));
+    shown =
+        λ p e. (
+          subst (λ (x : ℕ). x < 64) (agree who.number (ap not (runs_alive _ o.0.running)) ∙ o.1 ∙ some_is e)
+              (low who.number),
+          inl (on_present o.0),
+        );
     absent = λ e. absurd (some_not e);
   }
     where
@@ -133,11 +147,19 @@ sends_goes to state.Ended e = absurd cc
 
 -- what the load of the word of a thread whose message was taken tells
 module _ (y : ℕ → ℕ) (b : Board) (e : SenderEntry) (v : StateWord) (loaded : word_at b.seen (sender_of e) ≡ v) where
-  pub told_loaded : v.priority < 64 → IsOn v (sender_of e) ⊎ WasKilled v (sender_of e) → Told (threads_of y b) (sender_of e) (told_by e v)
-  told_loaded low (inl o) = subst (Told (threads_of y b) (sender_of e)) (sym (ap (λ (d : Bool). cond d (Some v.priority) None) (runs_pushed o))) record {
-    shown = λ n q. (subst (λ (x : ℕ). x < 64) (some_is q) low, inl (on_present y b (sender_of e) (subst (λ (x : StateWord). IsOn x (sender_of e)) (sym loaded) o)));
-    absent = λ q. absurd (some_not q);
-  }
+  pub told_loaded : v.priority < 64 → IsOn v (sender_of e) ⊎ WasKilled v (sender_of e) →
+      Told (threads_of y b) (sender_of e) (told_by e v)
+  told_loaded low (inl o) =
+      subst (Told (threads_of y b) (sender_of e)) (sym (ap (λ (d : Bool). cond d (Some v.priority) None)
+      (runs_pushed o))) record {
+        shown =
+            λ n q. (
+              subst (λ (x : ℕ). x < 64) (some_is q) low,
+              inl
+                  (on_present y b (sender_of e) (subst (λ (x : StateWord). IsOn x (sender_of e)) (sym loaded) o)),
+            );
+        absent = λ q. absurd (some_not q);
+      }
     where
       runs_pushed : IsOn v (sender_of e) → is_pushed e v ≡ true
       runs_pushed o = both (runs v.state) v.version (sender_of e).version o.running o.version
@@ -150,10 +172,12 @@ module _ (y : ℕ → ℕ) (b : Board) (e : SenderEntry) (v : StateWord) (loaded
 
       some_not : {m : ℕ} → Some m ≡ None → ⊥
       some_not q = cc
-  told_loaded low (inr k) = subst (Told (threads_of y b) (sender_of e)) (sym (ap (λ (d : Bool). cond d (Some v.priority) None) (killed_not v k))) record {
-    shown = λ n q. absurd (none_not q);
-    absent = λ q. killed_absent y b (sender_of e) (subst (λ (x : StateWord). WasKilled x (sender_of e)) (sym loaded) k);
-  }
+  told_loaded low (inr k) =
+      subst (Told (threads_of y b) (sender_of e)) (sym (ap (λ (d : Bool). cond d (Some v.priority) None)
+      (killed_not v k))) record {
+        shown = λ n q. absurd (none_not q);
+        absent = λ q. killed_absent y b (sender_of e) (subst (λ (x : StateWord). WasKilled x (sender_of e)) (sym loaded) k);
+      }
     where
       none_not : {n : ℕ} → None ≡ Some n → ⊥
       none_not q = cc

@@ -17,7 +17,8 @@ use Rattle.k_context.specs.Contexts.{ContextSeen, Thread, Carrier, owner_of, wit
 use Rattle.k_carrier.specs.declared.carrier.Target.{Target}
 use Rattle.k_carrier.specs.declared.carrier.Target.TheVariants.{GoalOf, Helped, Own}
 use Rattle.k_carrier.specs.Answers as answer
-use Rattle.k_carrier.specs.Asked.{CarrierAsk, LookAt, PutDown, Run, ask_at, ask_of, ask_with, asked_by, rested, resting_word, version_in, version_of}
+use Rattle.k_carrier.specs.Asked.{CarrierAsk, LookAt, PutDown, Run, ask_at, ask_of, ask_with}
+use Rattle.k_carrier.specs.Asked.{asked_by, rested, resting_word, version_in, version_of}
 use Rattle.k_carrier.specs.Moves.{Look}
 use Rattle.k_carrier.specs.Resumed.{after_look, heard, is_holding, resumed, seen, switched_to}
 use Rattle.k_carrier.specs.Rules.{begins, gives, is_own, readied, target_of}
@@ -46,17 +47,44 @@ use Rattle.k_places.proofs.Takes.{given_shown, nothing_changed, with_places}
 
 module _ (script : Script) (w : World) (b : Board) (sh : ShowsBoard script w b) where
   pub started_shown : (c number : ℕ) → ShowsBoard script (started c number w) b
-  started_shown c number = let s = sized_started c number w in record { whole = record { words = s.words ∙ sh.whole.words; slots = s.slots ∙ sh.whole.slots; serials = s.serials ∙ sh.whole.serials }; shows = subst (λ (m : Memory). Shows script m b) (sym (maps_started c number w)) sh.shows }
+  started_shown c number =
+      let s = sized_started c number w in record {
+        whole = record {
+          words = s.words ∙ sh.whole.words;
+          slots = s.slots ∙ sh.whole.slots;
+          serials = s.serials ∙ sh.whole.serials;
+        };
+        shows = subst (λ (m : Memory). Shows script m b) (sym (maps_started c number w)) sh.shows;
+      }
 
   pub sliced_shown : (c : ℕ) → ShowsBoard script (sliced c w) b
-  sliced_shown c = let s = sized_sliced c w in record { whole = record { words = s.words ∙ sh.whole.words; slots = s.slots ∙ sh.whole.slots; serials = s.serials ∙ sh.whole.serials }; shows = subst (λ (m : Memory). Shows script m b) (sym (maps_sliced c w)) sh.shows }
+  sliced_shown c =
+      let s = sized_sliced c w in record {
+        whole = record {
+          words = s.words ∙ sh.whole.words;
+          slots = s.slots ∙ sh.whole.slots;
+          serials = s.serials ∙ sh.whole.serials;
+        };
+        shows = subst (λ (m : Memory). Shows script m b)
+            (sym (maps_sliced c w)) sh.shows;
+      }
 
   pub parked_shown : (c : ℕ) → ShowsBoard script (parked c w) b
-  parked_shown c = let s = sized_parked c w in record { whole = record { words = s.words ∙ sh.whole.words; slots = s.slots ∙ sh.whole.slots; serials = s.serials ∙ sh.whole.serials }; shows = subst (λ (m : Memory). Shows script m b) (sym (maps_parked c w)) sh.shows }
+  parked_shown c =
+      let s = sized_parked c w in record {
+        whole = record {
+          words = s.words ∙ sh.whole.words;
+          slots = s.slots ∙ sh.whole.slots;
+          serials = s.serials ∙ sh.whole.serials;
+        };
+        shows = subst (λ (m : Memory). Shows script m b)
+            (sym (maps_parked c w)) sh.shows;
+      }
 
 -- WHAT A CARRIER HAS IN HAND
 
-pub not_held : (k : CarrierSeen) (x : HandSeen) (t : Bool) (a : CarrierAsk) → (if t then PutDown x else Run x) ≡ a → ((y : HandSeen) → a ≡ PutDown y → ⊥) → ((y : HandSeen) → a ≡ Run y → ⊥) → ⊥
+pub not_held : (k : CarrierSeen) (x : HandSeen) (t : Bool) (a : CarrierAsk) → (if t then PutDown x else Run x) ≡ a →
+    ((y : HandSeen) → a ≡ PutDown y → ⊥) → ((y : HandSeen) → a ≡ Run y → ⊥) → ⊥
 not_held k x true a e p r = p x (sym e)
 not_held k x false a e p r = r x (sym e)
 
@@ -115,7 +143,8 @@ put_down_hand k h e = by k.hand refl e
     by (Some x) q z = q ∙ ap Some (held x (gives k x) z)
     by None q z = absurd (at_none (readied k).looked z)
 
-module _ (script : Script) (w : World) (c : ℕ) (b : Board) (sh : ShowsBoard script w b) (within : IsStepWithin w (step_in script c w)) where
+module _ (script : Script) (w : World) (c : ℕ) (b : Board) (sh : ShowsBoard script w b)
+    (within : IsStepWithin w (step_in script c w)) where
   abbrev K : CarrierSeen
   K = carrier_at w c
 
@@ -127,13 +156,26 @@ module _ (script : Script) (w : World) (c : ℕ) (b : Board) (sh : ShowsBoard sc
   maps_asked a e = maps_moved script w (step_in script c w) within ∙ ap (MapsWith script w c) e
 
   -- the board is another, some turns later
-  pub later : (i n : ℕ) → n ≤ 2 → (b' : Board) → Turns (programs_of script) i n b b' → (a : CarrierAsk) → ask_of K ≡ a → Shows script (MapsWith script w c a) b' → ShowsLater script b i (moved script c w)
-  later i n few b' turns a e shows = record { count = n; few = few; board = b'; turns = turns; shows = record { whole = whole_moved script w c sh.whole; shows = subst (λ (m : Memory). Shows script m b') (sym (maps_asked a e)) shows } }
+  pub later : (i n : ℕ) → n ≤ 2 → (b' : Board) → Turns (programs_of script) i n b b' → (a : CarrierAsk) → ask_of K ≡ a →
+      Shows script (MapsWith script w c a) b' → ShowsLater script b i (moved script c w)
+  later i n few b' turns a e shows = record {
+    count = n;
+    few = few;
+    board = b';
+    turns = turns;
+    shows = record {
+      whole = whole_moved script w c sh.whole;
+      shows = subst (λ (m : Memory). Shows script m b') (sym (maps_asked a e)) shows;
+    };
+  }
 
   -- A LOOK
 
   pub look_shown : (n i : ℕ) → ask_of K ≡ LookAt n → ShowsLater script b i (moved script c w)
-  look_shown n i e = later i 0 (omega arith) b (none b) (LookAt n) e (subst (λ (h : Option HandSeen). Shows script (with_places M (upd M.context n (M.context n)) M.slot (upd M.hand c h)) b) (sym empty) (nothing_changed script M b c n sh.shows (hand_is w c ∙ look_empty K n e)))
+  look_shown n i e =
+      later i 0 (omega arith) b (none b) (LookAt n) e (subst
+      (λ (h : Option HandSeen). Shows script (with_places M (upd M.context n (M.context n)) M.slot (upd M.hand c h)) b)
+      (sym empty) (nothing_changed script M b c n sh.shows (hand_is w c ∙ look_empty K n e)))
     where
       empty : (carrier_after (StepWith script w c (LookAt n))).hand ≡ None
       empty = looked_after (asked_by script K (LookAt n)) (found_by w (Look n)) ∙ readied_hand K ∙ look_empty K n e
@@ -149,7 +191,9 @@ module _ (script : Script) (w : World) (c : ℕ) (b : Board) (sh : ShowsBoard sc
 
     -- its version is one of a word
     version : IsVersion (version_held h)
-    version = let whole : IsContextWord (Taken c (version_held h)) = subst IsContextWord (sh.shows.places.taken c h was) (sh.shows.places.spelled N).whole in whole.1
+    version =
+        let whole : IsContextWord (Taken c (version_held h)) =
+        subst IsContextWord (sh.shows.places.taken c h was) (sh.shows.places.spelled N).whole in whole.1
 
     empty_after : (carrier_after (StepWith script w c (PutDown h))).hand ≡ None
     empty_after = given_hand _ _
@@ -159,14 +203,23 @@ module _ (script : Script) (w : World) (c : ℕ) (b : Board) (sh : ShowsBoard sc
     Given v = with_places M (upd M.context N (context_bits (resting_word h.value))) (upd M.slot N (Lying v)) (upd M.hand c None)
 
     maps_given : Given (rested (is_own K h) h.value) ≡ MapsWith script w c (PutDown h)
-    maps_given = ap (λ (o : Option HandSeen). with_places M (upd M.context N (context_bits (resting_word h.value))) (upd M.slot N (Lying (rested (is_own K h) h.value))) (upd M.hand c o)) (sym empty_after)
+    maps_given =
+        ap (λ (o : Option HandSeen). with_places M (upd M.context N (context_bits (resting_word h.value)))
+        (upd M.slot N (Lying (rested (is_own K h) h.value))) (upd M.hand c o)) (sym empty_after)
 
     as_it_is : rested (is_own K h) h.value ≡ h.value → ShowsLater script b N (moved script c w)
-    as_it_is same = later N 0 (omega arith) b (none b) (PutDown h) e (subst (λ (m : Memory). Shows script m b) (ap Given (sym same) ∙ maps_given) (given_shown script M b c N h.value sh.shows was version))
+    as_it_is same =
+        later N 0 (omega arith) b (none b) (PutDown h) e (subst (λ (m : Memory). Shows script m b)
+        (ap Given (sym same) ∙ maps_given) (given_shown script M b c N h.value sh.shows was version))
 
     -- a switch that is finished ends
-    ends : (z : CarrierContext) (q : Switch) (d : Switched) → h.value ≡ Carrier z → z.switch ≡ Some q → q.location ≡ location.Finished d → rested (is_own K h) h.value ≡ without_switch h.value → ShowsLater script b N (moved script c w)
-    ends z q d is on over same = later N 1 (omega arith) After (more b After After (ends_switch q.call d at) (none After)) (PutDown h) e (subst (λ (m : Memory). Shows script m After) (maps_same ∙ maps_given) (given_shown script (with_hand M c (Some H2)) After c N V2 held (upd_same M.hand c (Some H2)) version2))
+    ends : (z : CarrierContext) (q : Switch) (d : Switched) → h.value ≡ Carrier z → z.switch ≡ Some q →
+        q.location ≡ location.Finished d → rested (is_own K h) h.value ≡ without_switch h.value →
+        ShowsLater script b N (moved script c w)
+    ends z q d is on over same =
+        later N 1 (omega arith) After (more b After After (ends_switch q.call d at) (none After)) (PutDown h) e
+        (subst (λ (m : Memory). Shows script m After) (maps_same ∙ maps_given)
+        (given_shown script (with_hand M c (Some H2)) After c N V2 held (upd_same M.hand c (Some H2)) version2))
       where
         V2 : ContextSeen
         V2 = without_switch (Carrier z)
@@ -175,7 +228,9 @@ module _ (script : Script) (w : World) (c : ℕ) (b : Board) (sh : ShowsBoard sc
         H2 = record { context = N; value = V2 }
 
         stands : (b.context N).at ≡ switch_at z.switch
-        stands = subst (λ (o : Option ContextSeen). ShowsContext (b.seen N).word N o (b.context N)) (held_is M.context M.slot M.hand c h sh.shows.places was ∙ ap Some is) (sh.shows.contexts N)
+        stands =
+            subst (λ (o : Option ContextSeen). ShowsContext (b.seen N).word N o (b.context N))
+            (held_is M.context M.slot M.hand c h sh.shows.places was ∙ ap Some is) (sh.shows.contexts N)
 
         at : (b.context N).at ≡ InSwitch q.call (switch.Finished d)
         at = stands ∙ ap switch_at on ∙ ap (λ l. InSwitch q.call (switch.at_of l)) over
@@ -194,10 +249,21 @@ module _ (script : Script) (w : World) (c : ℕ) (b : Board) (sh : ShowsBoard sc
 
         -- it holds no lock, before and after
         same_word : resting_word V2 ≡ resting_word h.value
-        same_word = (λ x. resting_word (Carrier (record { carrier = z.carrier; serial = z.serial; done = z.done; switch = Some (record { call = q.call; location = sym over x }) }))) ∙ (λ x. resting_word (Carrier (record { carrier = z.carrier; serial = z.serial; done = z.done; switch = sym on x }))) ∙ ap resting_word (sym is)
+        same_word =
+            (λ x. resting_word (Carrier (record {
+              carrier = z.carrier;
+              serial = z.serial;
+              done = z.done;
+              switch = Some (record { call = q.call; location = sym over x });
+            })))
+            ∙ (λ x. resting_word (Carrier (record { carrier = z.carrier; serial = z.serial; done = z.done; switch = sym on x })))
+            ∙ ap resting_word (sym is)
 
-        maps_same : with_places (with_hand M c (Some H2)) (upd M.context N (context_bits (resting_word V2))) (upd M.slot N (Lying V2)) (upd (with_hand M c (Some H2)).hand c None) ≡ Given (rested (is_own K h) h.value)
-        maps_same = λ x. with_places M (upd M.context N (context_bits (same_word x))) (upd M.slot N (Lying ((ap without_switch (sym is) ∙ sym same) x))) (upd_twice M.hand c (Some H2) None x)
+        maps_same : with_places (with_hand M c (Some H2)) (upd M.context N (context_bits (resting_word V2)))
+            (upd M.slot N (Lying V2)) (upd (with_hand M c (Some H2)).hand c None) ≡ Given (rested (is_own K h) h.value)
+        maps_same =
+            λ x. with_places M (upd M.context N (context_bits (same_word x)))
+            (upd M.slot N (Lying ((ap without_switch (sym is) ∙ sym same) x))) (upd_twice M.hand c (Some H2) None x)
 
     -- by what it is
     by_own : (o : Bool) → is_own K h ≡ o → (v : ContextSeen) → h.value ≡ v → ShowsLater script b N (moved script c w)
@@ -216,7 +282,8 @@ module _ (script : Script) (w : World) (c : ℕ) (b : Board) (sh : ShowsBoard sc
         by_switch (Some q) on = by_location q.location refl
           where
             by_location : (l : SwitchLocation) → q.location ≡ l → ShowsLater script b N (moved script c w)
-            by_location (location.Finished d) over = ends z q d is on over (rested_is ∙ rw on (rw over refl) ∙ ap without_switch (sym is))
+            by_location (location.Finished d) over =
+                ends z q d is on over (rested_is ∙ rw on (rw over refl) ∙ ap without_switch (sym is))
             by_location location.AcquireReady over = going q on (ap switch.switched_at over)
             by_location (location.Locked p lists) over = going q on (ap switch.switched_at over)
             by_location (location.ListsReturned p) over = going q on (ap switch.switched_at over)

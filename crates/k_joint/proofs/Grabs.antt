@@ -1,5 +1,6 @@
 -- A carrier's take of a context: the world after it shows the same board, but for a thread that wakes and a switch that begins.
-use Rattle.std.proofs.Common.{◌≡◌, ℕ, ◌<◌, ◌==◌, Bool, true, false, refl, sym, ap, ◌∙◌, subst, Option, Some, None, arith, inl, inr}
+use Rattle.std.proofs.Common.{◌≡◌, ℕ, ◌<◌, ◌==◌, Bool, true, false, refl, sym, ap}
+use Rattle.std.proofs.Common.{◌∙◌, subst, Option, Some, None, arith, inl, inr}
 use Rattle.std.specs.Prelude.{if◌then◌else◌, IfSome}
 use Rattle.std.proofs.lemmas.Bool.{cases_Bool, eqb-true}
 use Rattle.k_ids.specs.declared.context_word.ContextWord.{ContextWord}
@@ -58,7 +59,8 @@ value_taken k (Helped n) v = v
 value_taken k Own v = if has_switch v then v else with_switch (switch_call k) v
 value_taken k (GoalOf g) v = woken v
 
-take_hand : (k : CarrierSeen) (t : Target) (v : ContextSeen) → (after_take k t v).hand ≡ Some (record { context = context_at k t; value = value_taken k t v })
+take_hand : (k : CarrierSeen) (t : Target) (v : ContextSeen) →
+    (after_take k t v).hand ≡ Some (record { context = context_at k t; value = value_taken k t v })
 take_hand k (Helped n) v = refl
 take_hand k Own v = elim (cases_Bool (has_switch v)) [
   | inl e ↦ rw e refl
@@ -96,11 +98,14 @@ take_word k n s (Some x) e = ap Some (word_is e)
 looked_is : (k : CarrierSeen) (s : ℕ) → (readied k).looked ≡ Some s → k.looked ≡ Some s
 looked_is k s = by (begins k)
   where
-    by : (t : Bool) → (if t then record k { switching = true; help = None; looked = None } else k).looked ≡ Some s → k.looked ≡ Some s
+    by : (t : Bool) → (if t then record k { switching = true; help = None; looked = None } else k).looked ≡ Some s →
+        k.looked ≡ Some s
     by true e = absurd cc
     by false e = e
 
-module _ (script : Script) (w : World) (c : ℕ) (b : Board) (sh : ShowsBoard script w b) (within : IsStepWithin w (step_in script c w)) (n s : ℕ) (e : ask_of (carrier_at w c) ≡ Take n s) (sound : IsTaking script c (carrier_at w c)) where
+module _ (script : Script) (w : World) (c : ℕ) (b : Board) (sh : ShowsBoard script w b)
+    (within : IsStepWithin w (step_in script c w)) (n s : ℕ) (e : ask_of (carrier_at w c) ≡ Take n s)
+    (sound : IsTaking script c (carrier_at w c)) where
   abbrev K : CarrierSeen
   K = carrier_at w c
 
@@ -116,7 +121,9 @@ module _ (script : Script) (w : World) (c : ℕ) (b : Board) (sh : ShowsBoard sc
 
   -- by whether the word is the one that was seen
   abbrev Maps : Bool → Slot → Memory
-  Maps q sl = memory_with M (word.Context n) (if q then New else M.context n) (if q then Place n Away else Same) (upd M.hand c (resumed Asks (if q then took (M.context n) sl else TakeLost (M.context n))).hand) M.serial
+  Maps q sl =
+      memory_with M (word.Context n) (if q then New else M.context n) (if q then Place n Away else Same)
+      (upd M.hand c (resumed Asks (if q then took (M.context n) sl else TakeLost (M.context n))).hand) M.serial
 
   abbrev Answered : Bool → Slot → AnswerSeen
   Answered q sl = if q then took (M.context n) sl else TakeLost (M.context n)
@@ -129,9 +136,13 @@ module _ (script : Script) (w : World) (c : ℕ) (b : Board) (sh : ShowsBoard sc
   no_point true Away = refl
 
   abbrev MapsNoted : Option Point → Memory
-  MapsNoted p = memory_with M (word.Context n) (if M.context n == s then New else M.context n) (if M.context n == s then Place n Away else Same) (upd M.hand c (resumed Asks (Answered (M.context n == s) (M.slot n))).hand) (serials_with (entry_by w p) M.serial)
+  MapsNoted p =
+      memory_with M (word.Context n) (if M.context n == s then New else M.context n)
+      (if M.context n == s then Place n Away else Same) (upd M.hand c
+      (resumed Asks (Answered (M.context n == s) (M.slot n))).hand) (serials_with (entry_by w p) M.serial)
 
-  maps_noted : MapsWith script w c (Take n s) ≡ MapsNoted (point_of Asks (caller_in w Asks.hand) (Answered (M.context n == s) (M.slot n)))
+  maps_noted : MapsWith script w c (Take n s) ≡ MapsNoted
+      (point_of Asks (caller_in w Asks.hand) (Answered (M.context n == s) (M.slot n)))
   unfolding at
   maps_noted = refl
 
@@ -144,10 +155,15 @@ module _ (script : Script) (w : World) (c : ℕ) (b : Board) (sh : ShowsBoard sc
   -- A TAKE IN VAIN
 
   lost : (M.context n == s) ≡ false → ShowsLater script b n (moved script c w)
-  lost q = later script w c b sh within n 0 (omega arith) b (none b) (Take n s) e (subst (λ (m : Memory). Shows script m b) (back ∙ sym (maps_take ∙ ap (λ t. Maps t (M.slot n)) q)) (nothing_changed script M b c n sh.shows empty))
+  lost q =
+      later script w c b sh within n 0 (omega arith) b (none b) (Take n s) e
+      (subst (λ (m : Memory). Shows script m b) (back ∙ sym (maps_take ∙ ap (λ t. Maps t (M.slot n)) q))
+      (nothing_changed script M b c n sh.shows empty))
     where
       back : with_places M (upd M.context n (M.context n)) M.slot (upd M.hand c None) ≡ Maps false (M.slot n)
-      back = ap (λ (h : Option HandSeen). with_places M (upd M.context n (M.context n)) M.slot (upd M.hand c h)) (sym (readied_hand K ∙ take_empty K n s e))
+      back =
+          ap (λ (h : Option HandSeen). with_places M (upd M.context n (M.context n)) M.slot (upd M.hand c h))
+          (sym (readied_hand K ∙ take_empty K n s e))
 
   -- A TAKE THAT IS WON
 
@@ -165,7 +181,9 @@ module _ (script : Script) (w : World) (c : ℕ) (b : Board) (sh : ShowsBoard sc
   aims = take_place (readied K) n s (readied K).looked (take_asks K n s e)
 
   looked : IsContextSpelling s × IsResting (context_word_of s)
-  looked = subst (λ (o : Option ℕ). IfSome o (λ bits. IsContextSpelling bits × IsResting (context_word_of bits))) (looked_is K s (take_word (readied K) n s (readied K).looked (take_asks K n s e))) sound.sound.looked
+  looked =
+      subst (λ (o : Option ℕ). IfSome o (λ bits. IsContextSpelling bits × IsResting (context_word_of bits)))
+      (looked_is K s (take_word (readied K) n s (readied K).looked (take_asks K n s e))) sound.sound.looked
 
   module _ (won : (M.context n == s) ≡ true) where
     found : M.context n ≡ s
@@ -179,14 +197,29 @@ module _ (script : Script) (w : World) (c : ℕ) (b : Board) (sh : ShowsBoard sc
       pub free : (d x : ℕ) → Word ≡ Taken d x → ⊥
       pub whole : IsVersion (version_of (owner_of v))
 
-    there_in : (sl : Slot) (holds : Bool) (v0 : ℕ) → M.slot n ≡ sl → Rests sl holds v0 → version_in Word ≡ v0 → IsVersion v0 → context_in M.context M.slot M.hand n ≡ resting_in (M.slot n) → ((d x : ℕ) → Word ≡ Taken d x → ⊥) → (v : ContextSeen) × IsThere v
-    there_in (Lying v) holds v0 q r is whole at free = (v, record { slot = q; version = is ∙ sym r.1; rests = at ∙ ap resting_in q; free = free; whole = subst IsVersion (sym r.1) whole })
+    there_in : (sl : Slot) (holds : Bool) (v0 : ℕ) → M.slot n ≡ sl → Rests sl holds v0 → version_in Word ≡ v0 → IsVersion v0 →
+        context_in M.context M.slot M.hand n ≡ resting_in (M.slot n) → ((d x : ℕ) → Word ≡ Taken d x → ⊥) →
+        (v : ContextSeen) × IsThere v
+    there_in (Lying v) holds v0 q r is whole at free = (
+      v,
+      record {
+        slot = q;
+        version = is ∙ sym r.1;
+        rests = at ∙ ap resting_in q;
+        free = free;
+        whole = subst IsVersion (sym r.1) whole;
+      },
+    )
     there_in (Guarded g) holds v0 q r is whole at free = absurd r
     there_in Away holds v0 q r is whole at free = absurd r
 
     there_by : (x : ContextWord) → Word ≡ x → IsResting x → Stands M.slot M.hand n x → (v : ContextSeen) × IsThere v
-    there_by (Clean v0) q r st = there_in (M.slot n) false v0 refl st (ap version_in q) r (ap (context_by M.slot M.hand n) q) (λ d x z. let no : Clean v0 ≡ Taken d x = sym q ∙ z in absurd cc)
-    there_by (Holds v0) q r st = there_in (M.slot n) true v0 refl st (ap version_in q) r (ap (context_by M.slot M.hand n) q) (λ d x z. let no : Holds v0 ≡ Taken d x = sym q ∙ z in absurd cc)
+    there_by (Clean v0) q r st =
+        there_in (M.slot n) false v0 refl st (ap version_in q) r (ap (context_by M.slot M.hand n) q)
+        (λ d x z. let no : Clean v0 ≡ Taken d x = sym q ∙ z in absurd cc)
+    there_by (Holds v0) q r st =
+        there_in (M.slot n) true v0 refl st (ap version_in q) r (ap (context_by M.slot M.hand n) q)
+        (λ d x z. let no : Holds v0 ≡ Taken d x = sym q ∙ z in absurd cc)
     there_by (Taken d x) q r st = absurd r
     there_by Empty q r st = absurd r
 
@@ -199,19 +232,25 @@ module _ (script : Script) (w : World) (c : ℕ) (b : Board) (sh : ShowsBoard sc
 
       -- with this in hand
       abbrev Final : ContextSeen → Memory
-      Final u = with_places M (upd M.context n (context_bits (Taken c (version_held (Has v))))) (upd M.slot n Away) (upd M.hand c (Some (Has u)))
+      Final u =
+          with_places M (upd M.context n (context_bits (Taken c (version_held (Has v))))) (upd M.slot n Away)
+          (upd M.hand c (Some (Has u)))
 
       new_is : New ≡ context_bits (Taken c (version_held (Has v)))
       new_is = λ d. context_bits (Taken (sound.number d) ((ap (λ z. version_in (context_word_of z)) (sym found) ∙ h.version) d))
 
       hand_then : (resumed Asks (took (M.context n) (M.slot n))).hand ≡ Some (Has (value_taken Heard Aim v))
-      hand_then = ap (λ (z : Slot). (resumed Asks (took (M.context n) z)).hand) h.slot ∙ take_hand Heard Aim v ∙ ap (λ (x : ℕ). Some (record { context = x; value = value_taken Heard Aim v })) aims
+      hand_then =
+          ap (λ (z : Slot). (resumed Asks (took (M.context n) z)).hand) h.slot ∙ take_hand Heard Aim v
+          ∙ ap (λ (x : ℕ). Some (record { context = x; value = value_taken Heard Aim v })) aims
 
       maps_won : Maps true (M.slot n) ≡ Final (value_taken Heard Aim v)
       maps_won = λ d. with_places M (upd M.context n (new_is d)) (upd M.slot n Away) (upd M.hand c (hand_then d))
 
       first : Shows script (Final v) b
-      first = taken_shown script M b c n v sh.shows Word empty (refl, h.rests, h.free) (subst (λ x. x < 8) sound.number sound.sound.number, h.whole)
+      first =
+          taken_shown script M b c n v sh.shows Word empty (refl, h.rests, h.free)
+          (subst (λ x. x < 8) sound.number sound.sound.number, h.whole)
 
       shown : ShowsContext (b.seen n).word n (Some v) (b.context n)
       shown = subst (λ (o : Option ContextSeen). ShowsContext (b.seen n).word n o (b.context n)) h.rests (sh.shows.contexts n)
@@ -221,11 +260,18 @@ module _ (script : Script) (w : World) (c : ℕ) (b : Board) (sh : ShowsBoard sc
 
       -- as it lay there
       as_it_is : value_taken Heard Aim v ≡ v → ShowsLater script b n (moved script c w)
-      as_it_is q = later script w c b sh within n 0 (omega arith) b (none b) (Take n s) e (subst (λ (m : Memory). Shows script m b) (maps_are v q) first)
+      as_it_is q =
+          later script w c b sh within n 0 (omega arith) b (none b) (Take n s) e
+          (subst (λ (m : Memory). Shows script m b) (maps_are v q) first)
 
       -- a switch begins
-      switched : (z : CarrierContext) (call : SwitchCall) → v ≡ Carrier z → z.switch ≡ None → value_taken Heard Aim v ≡ Carrier (carriers.with_switch call z) → ShowsLater script b n (moved script c w)
-      switched z call is idle q = later script w c b sh within n 1 (omega arith) After (more b After After (begins_switch call at_rest) (none After)) (Take n s) e (subst (λ (m : Memory). Shows script m After) (ap (λ (x : ℕ → Option HandSeen). record (Final v) { hand = x }) (upd_twice M.hand c (Some (Has v)) (Some (Has U))) ∙ maps_are U q) next)
+      switched : (z : CarrierContext) (call : SwitchCall) → v ≡ Carrier z → z.switch ≡ None →
+          value_taken Heard Aim v ≡ Carrier (carriers.with_switch call z) → ShowsLater script b n (moved script c w)
+      switched z call is idle q =
+          later script w c b sh within n 1 (omega arith) After (more b After After (begins_switch call at_rest) (none After))
+          (Take n s) e (subst (λ (m : Memory). Shows script m After)
+          (ap (λ (x : ℕ → Option HandSeen). record (Final v) { hand = x }) (upd_twice M.hand c (Some (Has v)) (Some (Has U)))
+          ∙ maps_are U q) next)
         where
           U : ContextSeen
           U = Carrier (carriers.with_switch call z)
@@ -237,14 +283,22 @@ module _ (script : Script) (w : World) (c : ℕ) (b : Board) (sh : ShowsBoard sc
           After = placed b n X2
 
           at_rest : (b.context n).at ≡ Resting
-          at_rest = subst (λ (y : ContextSeen). ShowsContext (b.seen n).word n (Some y) (b.context n)) is shown ∙ ap switch_at idle
+          at_rest =
+              subst (λ (y : ContextSeen). ShowsContext (b.seen n).word n (Some y) (b.context n)) is shown ∙ ap switch_at idle
 
           next : Shows script (with_hand (Final v) c (Some (Has U))) After
-          next = held_shown script (Final v) b c n (Has v) U X2 first (upd_same M.hand c (Some (Has v))) refl (ap (λ (y : ContextSeen). version_of (owner_of y)) (sym is)) refl refl
+          next =
+              held_shown script (Final v) b c n (Has v) U X2 first (upd_same M.hand c (Some (Has v))) refl
+              (ap (λ (y : ContextSeen). version_of (owner_of y)) (sym is)) refl refl
 
       -- a thread wakes
-      wakes_up : (t : ThreadSeen) → v ≡ Thread t → t.activity ≡ activity.Alone location.Asleep → value_taken Heard Aim v ≡ Thread (record t { activity = activity.Alone location.LookAgain }) → ShowsLater script b n (moved script c w)
-      wakes_up t is asleep q = later script w c b sh within n 1 (omega arith) After (more b After After (wakes at_asleep) (none After)) (Take n s) e (subst (λ (m : Memory). Shows script m After) (ap (λ (x : ℕ → Option HandSeen). record (Final v) { hand = x }) (upd_twice M.hand c (Some (Has v)) (Some (Has U))) ∙ maps_are U q) next)
+      wakes_up : (t : ThreadSeen) → v ≡ Thread t → t.activity ≡ activity.Alone location.Asleep →
+          value_taken Heard Aim v ≡ Thread (record t { activity = activity.Alone location.LookAgain }) →
+          ShowsLater script b n (moved script c w)
+      wakes_up t is asleep q =
+          later script w c b sh within n 1 (omega arith) After (more b After After (wakes at_asleep) (none After)) (Take n s) e
+          (subst (λ (m : Memory). Shows script m After) (ap (λ (x : ℕ → Option HandSeen). record (Final v) { hand = x })
+          (upd_twice M.hand c (Some (Has v)) (Some (Has U))) ∙ maps_are U q) next)
         where
           U : ContextSeen
           U = Thread (record t { activity = activity.Alone location.LookAgain })
@@ -260,7 +314,9 @@ module _ (script : Script) (w : World) (c : ℕ) (b : Board) (sh : ShowsBoard sc
 
           made : (x : Bool) → ((b.seen n).word.version == t.id.version) ≡ x → x ≡ true
           made true y = refl
-          made false y = let no : activity.Alone (location.Between None) ≡ activity.Alone location.Asleep = sym (thread.coming (ap (λ (z : Context). z.at) thread.context ∙ rw y refl)).doing ∙ asleep in absurd cc
+          made false y =
+              let no : activity.Alone (location.Between None) ≡ activity.Alone location.Asleep =
+              sym (thread.coming (ap (λ (z : Context). z.at) thread.context ∙ rw y refl)).doing ∙ asleep in absurd cc
 
           ver : ((b.seen n).word.version == t.id.version) ≡ true
           ver = made ((b.seen n).word.version == t.id.version) refl
@@ -272,14 +328,23 @@ module _ (script : Script) (w : World) (c : ℕ) (b : Board) (sh : ShowsBoard sc
           woken_shown = record {
             number = thread.number;
             coming = λ y. absurd cc;
-            context = λ d. record { serial = ap (λ (z : Context). z.serial) thread.context d; own = (ap (λ (z : Context). z.own) thread.context ∙ ap (section_own t.own) asleep) d; position = ap (λ (z : Context). z.position) thread.context d; at = stands d };
+            context =
+                λ d. record {
+                  serial = ap (λ (z : Context). z.serial) thread.context d;
+                  own = (ap (λ (z : Context). z.own) thread.context ∙ ap (section_own t.own) asleep) d;
+                  position = ap (λ (z : Context). z.position) thread.context d;
+                  at = stands d;
+                };
           }
             where
-              stands : Alone location.LookAgain ≡ thread_at (b.seen n).word (record t { activity = activity.Alone location.LookAgain })
+              stands : Alone location.LookAgain ≡ thread_at (b.seen n).word
+                  (record t { activity = activity.Alone location.LookAgain })
               stands = sym (rw ver refl)
 
           next : Shows script (with_hand (Final v) c (Some (Has U))) After
-          next = held_shown script (Final v) b c n (Has v) U X2 first (upd_same M.hand c (Some (Has v))) refl (ap (λ (y : ContextSeen). version_of (owner_of y)) (sym is)) woken_shown refl
+          next =
+              held_shown script (Final v) b c n (Has v) U X2 first (upd_same M.hand c (Some (Has v))) refl
+              (ap (λ (y : ContextSeen). version_of (owner_of y)) (sym is)) woken_shown refl
 
       asleep_is : (a : Activity) → about.is_asleep a ≡ true → a ≡ activity.Alone location.Asleep
       asleep_is (activity.Alone location.Asleep) q = refl

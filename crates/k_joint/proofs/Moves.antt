@@ -13,10 +13,13 @@ use Rattle.k_joint.proofs.Carried.{give_shown, look_shown}
 use Rattle.k_joint.proofs.Grabs.{take_shown}
 use Rattle.k_joint.proofs.Runs.{section_shown}
 
-pub move_shown : (script : Script) (w : World) (c : ℕ) (b : Board) → ShowsBoard script w b → IsStepWithin w (step_in script c w) → IsMoveReady script c b (carrier_at w c) (ask_of (carrier_at w c)) → ShowsLater script b (acting (ask_of (carrier_at w c))) (moved script c w)
+pub move_shown : (script : Script) (w : World) (c : ℕ) (b : Board) → ShowsBoard script w b → IsStepWithin w (step_in script c w) →
+    IsMoveReady script c b (carrier_at w c) (ask_of (carrier_at w c)) →
+    ShowsLater script b (acting (ask_of (carrier_at w c))) (moved script c w)
 move_shown script w c b sh within ready = by (ask_of (carrier_at w c)) refl ready
   where
-    by : (a : CarrierAsk) → ask_of (carrier_at w c) ≡ a → IsMoveReady script c b (carrier_at w c) a → ShowsLater script b (acting a) (moved script c w)
+    by : (a : CarrierAsk) → ask_of (carrier_at w c) ≡ a → IsMoveReady script c b (carrier_at w c) a →
+        ShowsLater script b (acting a) (moved script c w)
     by (Run h) e r = section_shown script w c b h sh e r within
     by (PutDown h) e r = give_shown script w c b sh within h e
     by (LookAt n) e r = look_shown script w c b sh within n n e

@@ -75,7 +75,9 @@ module _ (script : Script) (w : World) (c : ℕ) where
   StepWith a = step_with w c K (asked_by script K a) (move_by script K a)
 
   abbrev pub MapsWith : CarrierAsk → Memory
-  MapsWith a = moved_maps script (memory_of w) c (running (asked_by script K a).hand) (move_by script K a) (carrier_after (StepWith a)).hand (entry_of w (StepWith a))
+  MapsWith a =
+      moved_maps script (memory_of w) c (running (asked_by script K a).hand) (move_by script K a)
+      (carrier_after (StepWith a)).hand (entry_of w (StepWith a))
 
   -- the maps of a step of the context in hand
   run_maps : (h : HandSeen) → MapsWith (Run h) ≡ section_maps script (memory_of w) c h.context (begun script h.value)
@@ -83,18 +85,38 @@ module _ (script : Script) (w : World) (c : ℕ) where
       let m = memory_of w in
       let v = begun script h.value in
       let s = step_of v in
-      let answers : answer_of s (word_at w (word_of s)) (goods_for w s) ≡ answer_in m s = λ d. answer_of s (word_is w (word_of s) d) (goods_is w s d) in
-      (λ d. moved_maps script m c h.context (Section s) (Some (record { context = h.context; value = context_resumed (context_asked v) (answers d) })) (entry_is w (points (context_asked v) (state_word_of (word_is w (word.State h.context) d)) (answers d)) d))
+      let answers : answer_of s (word_at w (word_of s)) (goods_for w s) ≡ answer_in m s =
+      λ d. answer_of s (word_is w (word_of s) d) (goods_is w s d) in
+      (λ d. moved_maps script m c h.context (Section s) (Some
+      (record { context = h.context; value = context_resumed (context_asked v) (answers d) }))
+      (entry_is w (points (context_asked v) (state_word_of (word_is w (word.State h.context) d)) (answers d)) d))
 
-  pub maps_run : (h : HandSeen) → ask_of K ≡ Run h → IsStepWithin w (step_in script c w) → memory_of (moved script c w) ≡ section_maps script (memory_of w) c h.context (begun script h.value)
+  pub maps_run : (h : HandSeen) → ask_of K ≡ Run h → IsStepWithin w (step_in script c w) →
+      memory_of (moved script c w) ≡ section_maps script (memory_of w) c h.context (begun script h.value)
   unfolding moved step_in
   maps_run h e within = maps_moved script w (step_in script c w) within ∙ ap MapsWith e ∙ run_maps h
 
   pub whole_moved : IsWhole script w → IsWhole script (moved script c w)
-  whole_moved h = let s = sized_moved script c w in record { words = s.words ∙ h.words; slots = s.slots ∙ h.slots; serials = s.serials ∙ h.serials }
+  whole_moved h =
+      let s = sized_moved script c w in record {
+        words = s.words ∙ h.words;
+        slots = s.slots ∙ h.slots;
+        serials = s.serials ∙ h.serials;
+      }
 
-  pub section_shown : (b : Board) (h : HandSeen) → ShowsBoard script w b → ask_of K ≡ Run h → IsReady script b h.context h.value → IsStepWithin w (step_in script c w) → ShowsLater script b h.context (moved script c w)
+  pub section_shown : (b : Board) (h : HandSeen) → ShowsBoard script w b → ask_of K ≡ Run h → IsReady script b h.context h.value →
+      IsStepWithin w (step_in script c w) → ShowsLater script b h.context (moved script c w)
   section_shown b h sh e ready within =
       let soon = section_comes script (memory_of w) b c h sh.shows (hand_is w c ∙ hand_of_run K h e) ready in
       let comes = soon.comes in
-      record { count = soon.count; few = soon.few; board = comes.board; turns = comes.turns; shows = record { whole = whole_moved sh.whole; shows = subst (λ (m : Memory). Shows script m comes.board) (sym (maps_run h e within)) comes.shows } }
+      record {
+        count = soon.count;
+        few = soon.few;
+        board = comes.board;
+        turns = comes.turns;
+        shows = record {
+          whole = whole_moved sh.whole;
+          shows =
+              subst (λ (m : Memory). Shows script m comes.board) (sym (maps_run h e within)) comes.shows;
+        };
+      }

@@ -77,7 +77,8 @@ goods_same m hs (step.Exchange name old new) = refl
 goods_same m hs (step.Place id program priority) = refl
 goods_same m hs (step.Remove id) = refl
 
-with_same : (m : Memory) (hs : ℕ → Option HandSeen) (name : WordName) (v : ℕ) (f : Filling) (hands : ℕ → Option HandSeen) (serials : ℕ → ℕ) → memory_with (record m { hand = hs }) name v f hands serials ≡ memory_with m name v f hands serials
+with_same : (m : Memory) (hs : ℕ → Option HandSeen) (name : WordName) (v : ℕ) (f : Filling) (hands : ℕ → Option HandSeen)
+    (serials : ℕ → ℕ) → memory_with (record m { hand = hs }) name v f hands serials ≡ memory_with m name v f hands serials
 with_same m hs (word.State n) v f hands serials = refl
 with_same m hs (word.Mail n) v f hands serials = refl
 with_same m hs (word.Lock l) v f hands serials = refl
@@ -85,15 +86,21 @@ with_same m hs (word.Context n) v f hands serials = refl
 
 module _ (script : Script) (m : Memory) (c i : ℕ) (h : Option HandSeen) (v : ContextSeen) where
   abbrev Maps : Memory → ℕ → Goods → Memory
-  Maps mem found g = memory_with mem (word_of (step_of v)) (becomes i (step_of v) found) (filling_by script (step_of v) found) (upd mem.hand c (Some (record { context = i; value = resumed (asked v) (answer_of (step_of v) found g) }))) (serials_with (entry_in mem.serial (points (asked v) (state_word_of (mem.state i)) (answer_of (step_of v) found g))) mem.serial)
+  Maps mem found g =
+      memory_with mem (word_of (step_of v)) (becomes i (step_of v) found) (filling_by script (step_of v) found)
+      (upd mem.hand c (Some (record { context = i; value = resumed (asked v) (answer_of (step_of v) found g) })))
+      (serials_with (entry_in mem.serial (points (asked v) (state_word_of (mem.state i))
+      (answer_of (step_of v) found g))) mem.serial)
 
   same_maps : section_maps script (with_hand m c h) c i v ≡ section_maps script m c i v
   same_maps =
       let found = word_in m (word_of (step_of v)) in
       let g = goods_found m (step_of v) in
-      (λ d. Maps (with_hand m c h) (word_same m (upd m.hand c h) (word_of (step_of v)) d) (goods_same m (upd m.hand c h) (step_of v) d))
+      (λ d. Maps (with_hand m c h) (word_same m (upd m.hand c h) (word_of (step_of v)) d)
+      (goods_same m (upd m.hand c h) (step_of v) d))
       ∙ with_same m (upd m.hand c h) (word_of (step_of v)) (becomes i (step_of v) found) (filling_by script (step_of v) found) _ _
-      ∙ ap (λ (z : ℕ → Option HandSeen). record (section_maps script m c i v) { hand = z }) (upd_twice m.hand c h (Some (record { context = i; value = context_after m v })))
+      ∙ ap (λ (z : ℕ → Option HandSeen). record (section_maps script m c i v) { hand = z })
+      (upd_twice m.hand c h (Some (record { context = i; value = context_after m v })))
 
 -- THE NEXT CALL
 
@@ -115,7 +122,8 @@ next_needs script b size me (next.Phase (phase.Create program priority)) = tt
 next_needs script b size me (next.Phase (phase.Destroy who)) = tt
 next_needs script b size me (next.Phase phase.End) = tt
 
-module _ (script : Script) (m : Memory) (b : Board) (c : ℕ) (k : HandSeen) (sh : Shows script m b) (was : m.hand c ≡ Some k) (ready : IsReady script b k.context k.value) where
+module _ (script : Script) (m : Memory) (b : Board) (c : ℕ) (k : HandSeen) (sh : Shows script m b) (was : m.hand c ≡ Some k)
+    (ready : IsReady script b k.context k.value) where
   abbrev I : ℕ
   I = k.context
 
@@ -143,15 +151,27 @@ module _ (script : Script) (m : Memory) (b : Board) (c : ℕ) (k : HandSeen) (sh
 
     -- its step, where it is about something
     goes_on : threads.begun script t ≡ t → Result (begun script k.value)
-    goes_on same = subst Result (ap Thread (sym same) ∙ ap (begun script) (sym is)) (once (thread_comes script m b c I k t sh ready.locks was refl is ready.made needs
-        (subst (λ (z : ThreadSeen). threads.can_ask z ≡ true) same ready_thread.asks) (subst (λ (z : ThreadSeen). IsSpelled script.table (ask_in z.id z.own z.activity)) same ready_thread.spelled) (subst (λ (z : ThreadSeen). about.IsSoundAt z.id z.own z.activity) same ready_thread.sound.doing)))
+    goes_on same =
+        subst Result (ap Thread (sym same) ∙ ap (begun script) (sym is))
+        (once (thread_comes script m b c I k t sh ready.locks was refl is ready.made needs
+        (subst (λ (z : ThreadSeen). threads.can_ask z ≡ true) same ready_thread.asks)
+        (subst (λ (z : ThreadSeen). IsSpelled script.table (ask_in z.id z.own z.activity)) same ready_thread.spelled)
+        (subst (λ (z : ThreadSeen). about.IsSoundAt z.id z.own z.activity) same ready_thread.sound.doing)))
 
     -- its next call, and the first step of it
     begins_on : (last : Option Reply) → t.activity ≡ activity.Alone (location.Between last) → Result (begun script k.value)
-    begins_on last e = subst Result (ap (begun script) (sym is)) (subst (ComesSoon script (programs_of script) I b) (same_maps script m c I (Some K1) (Thread T1)) (record { count = 2; few = omega arith; comes = record { board = comes.board; turns = more b B.board comes.board B.turn comes.turns; shows = comes.shows } }))
+    begins_on last e =
+        subst Result (ap (begun script) (sym is)) (subst (ComesSoon script (programs_of script) I b)
+        (same_maps script m c I (Some K1) (Thread T1)) (record {
+          count = 2;
+          few = omega arith;
+          comes = record { board = comes.board; turns = more b B.board comes.board B.turn comes.turns; shows = comes.shows };
+        }))
       where
         ver : ((b.seen I).word.version == t.id.version) ≡ true
-        ver = made_test (b.seen I).word t ((b.seen I).word.version == t.id.version) refl (λ q. ready.made (ap (λ (z : Context). z.at) shown.context ∙ q))
+        ver =
+            made_test (b.seen I).word t ((b.seen I).word.version == t.id.version) refl
+            (λ q. ready.made (ap (λ (z : Context). z.at) shown.context ∙ q))
 
         at : X.at ≡ Alone (location.Between last)
         at = ap (λ (z : Context). z.at) shown.context ∙ rw ver (ap at_in e)
@@ -174,18 +194,42 @@ module _ (script : Script) (m : Memory) (b : Board) (c : ℕ) (k : HandSeen) (sh
         K1 : HandSeen
         K1 = record { context = I; value = Thread T1 }
 
-        next_is : begun_next script.table (record { id = id_at b I; position = went_on X.position last; own = X.own; serial = X.serial; done = t.done; activity = activity.Alone (location.Between last) }) (next_of script.version X.position last) ≡ T1
-        next_is = (λ d. begun_next script.table (record { id = id_is d; position = went_on (position_is d) last; own = own_is d; serial = serial_is d; done = t.done; activity = sym e d }) (next_of script.version (position_is d) last)) ∙ ap (begun_at script t) (sym e)
+        next_is : begun_next script.table (record {
+          id = id_at b I;
+          position = went_on X.position last;
+          own = X.own;
+          serial = X.serial;
+          done = t.done;
+          activity = activity.Alone (location.Between last);
+        })
+            (next_of script.version X.position last) ≡ T1
+        next_is =
+            (λ d. begun_next script.table (record {
+              id = id_is d;
+              position = went_on (position_is d) last;
+              own = own_is d;
+              serial = serial_is d;
+              done = t.done;
+              activity = sym e d;
+            }) (next_of script.version (position_is d) last))
+            ∙ ap (begun_at script t) (sym e)
 
         B : IsBegun script b I (with_hand m c (Some K1)) (next_at b.size (id_at b I) (next_of script.version X.position last))
-        B = subst (λ (z : ThreadSeen). IsBegun script b I (with_hand m c (Some (record { context = I; value = Thread z }))) (next_at b.size (id_at b I) (next_of script.version X.position last))) next_is
-            (begins_shown script m b c I last t.done k sh ready.locks was refl (next_of script.version X.position last) refl at (subst (λ n. n < 2 ^ 32 - 1) (sym serial_is) ready_thread.counted)
-            (ap (λ (v : ContextSeen). version_held (record { context = I; value = v })) is ∙ sym (eqb-true (b.seen I).word.version t.id.version ver)))
+        B =
+            subst (λ (z : ThreadSeen). IsBegun script b I (with_hand m c (Some (record { context = I; value = Thread z })))
+            (next_at b.size (id_at b I) (next_of script.version X.position last))) next_is
+            (begins_shown script m b c I last t.done k sh ready.locks was refl (next_of script.version X.position last) refl at
+            (subst (λ n. n < 2 ^ 32 - 1) (sym serial_is) ready_thread.counted)
+            (ap (λ (v : ContextSeen). version_held (record { context = I; value = v })) is
+            ∙ sym (eqb-true (b.seen I).word.version t.id.version ver)))
 
         comes : Comes script (programs_of script) I 1 B.board (section_maps script (with_hand m c (Some K1)) c I (Thread T1))
-        comes = thread_comes script (with_hand m c (Some K1)) B.board c I K1 T1 B.shows B.locks (upd_same m.hand c (Some K1)) refl refl
+        comes =
+            thread_comes script (with_hand m c (Some K1)) B.board c I K1 T1 B.shows B.locks
+            (upd_same m.hand c (Some K1)) refl refl
             (λ q. next_made b.size (id_at b I) (next_of script.version X.position last) (sym B.stands ∙ q))
-            (subst (Needs script B.board) (sym B.stands) (next_needs script B.board b.size (id_at b I) (next_of script.version X.position last)))
+            (subst (Needs script B.board) (sym B.stands) (next_needs script B.board b.size (id_at b I)
+            (next_of script.version X.position last)))
             ready_thread.asks ready_thread.spelled ready_thread.sound.doing
 
     by_doing : (a : Activity) → t.activity ≡ a → Result (begun script k.value)
@@ -194,8 +238,13 @@ module _ (script : Script) (m : Memory) (b : Board) (c : ℕ) (k : HandSeen) (sh
 
   -- a switch
   switch_on : (z : CarrierContext) → k.value ≡ Carrier z → (o : Option Switch) → z.switch ≡ o → Result (begun script k.value)
-  switch_on z is None e = let no : false ≡ true = sym (ap carriers.can_ask_in e) ∙ subst (λ (v : ContextSeen). can_ask (begun script v) ≡ true) is ready.asks in absurd cc
-  switch_on z is (Some s) e = subst Result (ap Carrier same ∙ ap (begun script) (sym is)) (once (switch_steps script m b c I s.call s.location z.carrier z.serial z.done k sh ready.locks was refl fit at can hand held))
+  switch_on z is None e =
+      let no : false ≡ true = sym (ap carriers.can_ask_in e)
+      ∙ subst (λ (v : ContextSeen). can_ask (begun script v) ≡ true) is ready.asks in absurd cc
+  switch_on z is (Some s) e =
+      subst Result (ap Carrier same ∙ ap (begun script) (sym is))
+      (once (switch_steps script m b c I s.call s.location z.carrier z.serial z.done
+      k sh ready.locks was refl fit at can hand held))
     where
       same : record { carrier = z.carrier; serial = z.serial; done = z.done; switch = Some s } ≡ z
       same = λ d. record { carrier = z.carrier; serial = z.serial; done = z.done; switch = sym e d }
@@ -216,7 +265,10 @@ module _ (script : Script) (m : Memory) (b : Board) (c : ℕ) (k : HandSeen) (sh
       held = ap (λ (v : ContextSeen). version_held (record { context = I; value = v })) is
 
       fit : IsAskFit m b (switch.ask_of s.call (switch.at_of s.location))
-      fit = usual_fit m b _ sh.size (switch_usual s.call (switch.at_of s.location)) (subst (λ (o : Option Switch). IsSpelled script.table (ask_of_switch o)) e (subst (λ (v : ContextSeen). IsSpelled script.table (ask_at (begun script v))) is ready.spelled))
+      fit =
+          usual_fit m b _ sh.size (switch_usual s.call (switch.at_of s.location))
+          (subst (λ (o : Option Switch). IsSpelled script.table (ask_of_switch o)) e
+          (subst (λ (v : ContextSeen). IsSpelled script.table (ask_at (begun script v))) is ready.spelled))
 
   -- what the context in hand is
   pub section_comes : Result (begun script k.value)

@@ -14,7 +14,8 @@ use Rattle.k_switch.specs.declared.switch.SwitchCall.{SwitchCall}
 use Rattle.k_switch.specs.declared.switch.SwitchLocked.TheVariants.{LoadGoal, LoadStart, ReleaseReady}
 use Rattle.k_switch.specs.declared.switch.SwitchLocation.{SwitchLocation}
 use Rattle.k_switch.specs.declared.switch.SwitchLocation.TheVariants as location
-use Rattle.k_switch.specs.Switches.{SwitchAt, AcquireReady, Locked, Returned, Finished, ask_of, asked_location, at_of, can_ask, hand_after, hand_of, leads, location_after, location_with, locks_of, moved_location}
+use Rattle.k_switch.specs.Switches.{SwitchAt, AcquireReady, Locked, Returned, Finished, ask_of, asked_location, at_of, can_ask}
+use Rattle.k_switch.specs.Switches.{hand_after, hand_of, leads, location_after, location_with, locks_of, moved_location}
 use Rattle.k_switch.specs.Carriers as carriers
 use Rattle.k_context.specs.Contexts.{Carrier}
 use Rattle.k_carrier.specs.Moves.{Section}
@@ -74,13 +75,16 @@ same_ask c (location.ListsReturned s) = refl
 same_ask c (location.Finished s) = refl
 
 -- it has the ready lists of the board in hand, where it holds their lock
-location_is : (h : Hand) (l : SwitchLocation) → can_ask l ≡ true → hand_of l ≡ trimmed (locks_of (at_of l)) h → l ≡ location_with h (at_of l)
+location_is : (h : Hand) (l : SwitchLocation) → can_ask l ≡ true → hand_of l ≡ trimmed (locks_of (at_of l)) h →
+    l ≡ location_with h (at_of l)
 location_is h location.AcquireReady can e = refl
 location_is h (location.Locked p lists) can e = ap (location.Locked p) (ap (λ (z : Hand). z.lists) e)
 location_is h (location.ListsReturned s) can e = absurd cc
 location_is h (location.Finished s) can e = absurd cc
 
-module _ (script : Script) (m : Memory) (b : Board) (c i : ℕ) (call : SwitchCall) (l : SwitchLocation) (carrier serial d : ℕ) (k : HandSeen) (sh : Shows script m b) (locks : LocksHold b.owner b.table b.ready b.context) (was : m.hand c ≡ Some k) (mine : k.context ≡ i) where
+module _ (script : Script) (m : Memory) (b : Board) (c i : ℕ) (call : SwitchCall) (l : SwitchLocation) (carrier serial d : ℕ)
+    (k : HandSeen) (sh : Shows script m b) (locks : LocksHold b.owner b.table b.ready b.context) (was : m.hand c ≡ Some k)
+    (mine : k.context ≡ i) where
   abbrev X : Context
   X = b.context i
 
@@ -113,17 +117,30 @@ module _ (script : Script) (m : Memory) (b : Board) (c i : ℕ) (call : SwitchCa
 
   -- the carrier's context then
   abbrev Next : Bool → CarrierContext
-  Next q = if q then carriers.asked Mine else record (carriers.asked Mine) { done = carriers.done_after (carriers.asked Mine); switch = Some (record { call = call; location = location_after call L0 An }) }
+  Next q =
+      if q then carriers.asked Mine else record (carriers.asked Mine) {
+        done = carriers.done_after (carriers.asked Mine);
+        switch = Some (record { call = call; location = location_after call L0 An });
+      }
 
-  moved_is : IsAskFit m b A → can_ask l ≡ true → hand_of l ≡ trimmed (locks_of P) On → location_after call L0 An ≡ Then b i X call P R
+  moved_is : IsAskFit m b A → can_ask l ≡ true → hand_of l ≡ trimmed (locks_of P) On →
+      location_after call L0 An ≡ Then b i X call P R
   moved_is fit can e =
       let is : l ≡ location_with On P = location_is On l can e in
       (λ d. moved_location call (hand_of L0) (at_of L0) An (response_of An (same_ask call l d)))
       ∙ (λ d. moved_location call (hand_of (asked_location call (is d))) (at_of (asked_location call (is d))) An R)
-      ∙ ap (λ z. location_with z (leads call (hand_of (asked_location call (location_with On P))) (at_of (asked_location call (location_with On P))) R)) (came_is m b sh.owners sh.goods.homes A Goes_home (hand_after call (hand_of (asked_location call (location_with On P))) (at_of (asked_location call (location_with On P))) R) fit)
+      ∙ ap (λ z. location_with z (leads call (hand_of (asked_location call (location_with On P)))
+      (at_of (asked_location call (location_with On P))) R))
+      (came_is m b sh.owners sh.goods.homes A Goes_home (hand_after call (hand_of (asked_location call (location_with On P)))
+      (at_of (asked_location call (location_with On P))) R) fit)
 
-  pub switch_steps : IsAskFit m b A → X.at ≡ InSwitch call P → can_ask l ≡ true → hand_of l ≡ held_on b (locks_at X.at) → version_held k ≡ 1 → Comes script (programs_of script) i 1 b (section_maps script m c i (Carrier Mine))
-  switch_steps fit at can hand held = record { board = After; turns = more b After After (switches call P R at (going_at l can) an) (none After); shows = by (is_again An) refl }
+  pub switch_steps : IsAskFit m b A → X.at ≡ InSwitch call P → can_ask l ≡ true → hand_of l ≡ held_on b (locks_at X.at) →
+      version_held k ≡ 1 → Comes script (programs_of script) i 1 b (section_maps script m c i (Carrier Mine))
+  switch_steps fit at can hand held = record {
+    board = After;
+    turns = more b After After (switches call P R at (going_at l can) an) (none After);
+    shows = by (is_again An) refl;
+  }
     where
       an : Answers b A R
       an = step_finds m b A Goes_home (goods_found m (step_for A Goes_home)) sh.seen sh.owners fit
@@ -137,8 +154,13 @@ module _ (script : Script) (m : Memory) (b : Board) (c i : ℕ) (call : SwitchCa
           no_queue (location.ListsReturned s) q = absurd cc
           no_queue (location.Finished s) q = absurd cc
 
-      shown : (z : CarrierContext) (place : SwitchLocation) → z.switch ≡ Some (record { call = call; location = place }) → Switches b After A (locks_of P) place (leads call On P R) (hand_after call (trimmed (locks_of P) On) P asks.Released) → Shows script (moved_maps script m c i (Section (step_for A Goes_home)) (Some (record { context = i; value = Carrier z })) (entry_in m.serial None)) After
-      shown z place is go = usual_shown script m b After c i A Goes_home (goods_found m (step_for A Goes_home)) k (Carrier z) None (switch_context X call P R On) (programs_of script) X.position sh locks was mine fit (usual call P) (sym held)
+      shown : (z : CarrierContext) (place : SwitchLocation) → z.switch ≡ Some (record { call = call; location = place }) →
+          Switches b After A (locks_of P) place (leads call On P R) (hand_after call (trimmed (locks_of P) On) P asks.Released) →
+          Shows script (moved_maps script m c i (Section (step_for A Goes_home))
+          (Some (record { context = i; value = Carrier z })) (entry_in m.serial None)) After
+      shown z place is go =
+          usual_shown script m b After c i A Goes_home (goods_found m (step_for A Goes_home)) k (Carrier z) None
+          (switch_context X call P R On) (programs_of script) X.position sh locks was mine fit (usual call P) (sym held)
           (record { size = refl; seen = seen_same; owns = (refl, refl, refl); context = refl }) tt (same_version call P)
           (ap (InSwitch call) (sym go.at) ∙ ap switch_at (sym is))
           (ap switch_hand is ∙ go.hand)
@@ -156,16 +178,33 @@ module _ (script : Script) (m : Memory) (b : Board) (c i : ℕ) (call : SwitchCa
               by_place (Returned s) r = refl
               by_place (Finished s) r = refl
 
-      by : (q : Bool) → is_again An ≡ q → Shows script (moved_maps script m c i (Section (step_for A Goes_home)) (Some (record { context = i; value = Carrier (Next q) })) (entry_in m.serial None)) After
+      by : (q : Bool) → is_again An ≡ q → Shows script (moved_maps script m c i (Section (step_for A Goes_home))
+          (Some (record { context = i; value = Carrier (Next q) })) (entry_in m.serial None)) After
       by true e = shown (Next true) L0 refl (waits_on l R an (sym (again_heard A An) ∙ e) can in_hand)
         where
-          waits_on : (z : SwitchLocation) (r : Response) → Answers b (ask_of call (at_of z)) r → asks.is_again r ≡ true → can_ask z ≡ true → hand_of z ≡ trimmed (locks_of (at_of z)) On → Switches b (switch_board b i X call (at_of z) r) (ask_of call (at_of z)) (locks_of (at_of z)) (asked_location call z) (leads call On (at_of z) r) (hand_after call (trimmed (locks_of (at_of z)) On) (at_of z) asks.Released)
-          waits_on location.AcquireReady (asks.Owned o) an ag can h = record { at = refl; hand = refl; others = λ x q. refl; returned = tt }
+          waits_on : (z : SwitchLocation) (r : Response) → Answers b (ask_of call (at_of z)) r → asks.is_again r ≡ true →
+              can_ask z ≡ true → hand_of z ≡ trimmed (locks_of (at_of z)) On →
+              Switches b (switch_board b i X call (at_of z) r) (ask_of call (at_of z)) (locks_of (at_of z))
+              (asked_location call z) (leads call On (at_of z) r)
+              (hand_after call (trimmed (locks_of (at_of z)) On) (at_of z) asks.Released)
+          waits_on location.AcquireReady (asks.Owned o) an ag can h = record {
+            at = refl;
+            hand = refl;
+            others = λ x q. refl;
+            returned = tt;
+          }
           waits_on location.AcquireReady asks.Got an ag can h = absurd cc
           waits_on location.AcquireReady r an ag can h = absurd an
           waits_on (location.ListsReturned s) r an ag can h = absurd cc
           waits_on (location.Finished s) r an ag can h = absurd cc
-          waits_on (location.Locked (LoadGoal goal) lists) r an ag can h = absurd (again_asks b (ask_of call (Locked (LoadGoal goal))) r an ag)
-          waits_on (location.Locked (LoadStart back number) lists) r an ag can h = absurd (again_asks b (ask_of call (Locked (LoadStart back number))) r an ag)
-          waits_on (location.Locked (ReleaseReady back started) lists) r an ag can h = absurd (again_asks b (ask_of call (Locked (ReleaseReady back started))) r an ag)
-      by false e = shown (Next false) (location_after call L0 An) refl (subst (λ (z : SwitchLocation). Switches b After A (locks_of P) z (leads call On P R) (hand_after call (trimmed (locks_of P) On) P asks.Released)) (sym (moved_is fit can in_hand)) (switch_goes b i X call P R (go_at l can) an (sym (again_heard A An) ∙ e)))
+          waits_on (location.Locked (LoadGoal goal) lists) r an ag can h =
+              absurd (again_asks b (ask_of call (Locked (LoadGoal goal))) r an ag)
+          waits_on (location.Locked (LoadStart back number) lists) r an ag can h =
+              absurd (again_asks b (ask_of call (Locked (LoadStart back number))) r an ag)
+          waits_on (location.Locked (ReleaseReady back started) lists) r an ag can h =
+              absurd (again_asks b (ask_of call (Locked (ReleaseReady back started))) r an ag)
+      by false e =
+          shown (Next false) (location_after call L0 An) refl
+          (subst (λ (z : SwitchLocation). Switches b After A (locks_of P) z (leads call On P R)
+          (hand_after call (trimmed (locks_of P) On) P asks.Released)) (sym (moved_is fit can in_hand))
+          (switch_goes b i X call P R (go_at l can) an (sym (again_heard A An) ∙ e)))

@@ -31,10 +31,13 @@ pub record Reached (script : Script) (b : Board) (es : List Entry) : Type 0 wher
 
 module _ (script : Script) (limits : IsScript script) where
   -- between two calls a thread's serial is the ledger's last
-  called_here : (i : ℕ) (b : Board) (es : List Entry) (h : Reached script b es) (l : Option Reply) → (b.context i).at ≡ Alone (location.Between l) → (b.context i).serial ≡ (b.seen i).last
-  called_here i b es h l at = (subst (λ (p : At). AllSay (ranged_programs script) b i (b.context i) (facts_of p)) at (h.holds.proper.good.places i)).0
+  called_here : (i : ℕ) (b : Board) (es : List Entry) (h : Reached script b es) (l : Option Reply) →
+      (b.context i).at ≡ Alone (location.Between l) → (b.context i).serial ≡ (b.seen i).last
+  called_here i b es h l at =
+      (subst (λ (p : At). AllSay (ranged_programs script) b i (b.context i) (facts_of p)) at (h.holds.proper.good.places i)).0
 
-  pub turns_hold : (i n : ℕ) (b c : Board) (es : List Entry) (ts : Turns (programs_of script) i n b c) → Reached script b es → Reached script c (es ++ entries_along (programs_of script) i n b c ts)
+  pub turns_hold : (i n : ℕ) (b c : Board) (es : List Entry) (ts : Turns (programs_of script) i n b c) → Reached script b es →
+      Reached script c (es ++ entries_along (programs_of script) i n b c ts)
   turns_hold i _ b _ es (none _) h = subst (Reached script b) (sym (append-nil es)) h
   turns_hold i _ b c es (more _ b' _ t ts) h =
       let g = ranged_programs script in
@@ -48,5 +51,6 @@ module _ (script : Script) (limits : IsScript script) where
         serials = subst (SerialsHold b') (sym (length-append es (entries_of b q))) serials;
       } in
       let p = turn_point (programs_of script) b i b' t in
-      let rest = turns_hold i _ b' c (es ++ entries_of b p) ts (subst (λ (r : Option Point). Reached script b' (es ++ entries_of b r)) other.point next) in
+      let rest = turns_hold i _ b' c (es ++ entries_of b p) ts
+      (subst (λ (r : Option Point). Reached script b' (es ++ entries_of b r)) other.point next) in
       subst (Reached script c) (append_assoc es (entries_of b p) (entries_along (programs_of script) i _ b' c ts)) rest

@@ -19,8 +19,20 @@ module _ (script : Script) (w : World) (h : WorldHolds script w) where
 
   pub sliced_holds : (c : ℕ) → WorldHolds script (sliced c w)
   unfolding sliced
-  sliced_holds c = record { board = h.board; state = h.state; shows = sliced_shown script w h.board h.shows c; holds = h.holds; serials = h.serials }
+  sliced_holds c = record {
+    board = h.board;
+    state = h.state;
+    shows = sliced_shown script w h.board h.shows c;
+    holds = h.holds;
+    serials = h.serials;
+  }
 
   pub parked_holds : (c : ℕ) → WorldHolds script (parked c w)
   unfolding parked
-  parked_holds c = record { board = h.board; state = h.state; shows = parked_shown script w h.board h.shows c; holds = h.holds; serials = h.serials }
+  parked_holds c = record {
+    board = h.board;
+    state = h.state;
+    shows = parked_shown script w h.board h.shows c;
+    holds = h.holds;
+    serials = h.serials;
+  }

@@ -1,4 +1,5 @@
--- Two programs that differ in what comes next alone leave the same ledgers and contexts; and have the same facts where both give the
+-- Two programs that differ in what comes next alone leave the same ledgers and contexts; and have the same facts where both
+-- give the
 -- same next at each position that is reached.
 use Rattle.std.proofs.Common.{◌≡◌, ℕ, refl, sym, ◌∙◌, Option, Some, None, List, [], ◌∷◌}
 use Rattle.k_ids.specs.declared.calls.Act.{Act}
@@ -34,11 +35,13 @@ module _ (Own : Programs) (gives : Position → Option Reply → Next) where
   opens_same s id (phase.Create program priority) = refl
   opens_same s id f = refl
 
-  call_same : (s : ℕ → Seen) (me : ThreadId) (at : Position) (f : Phase) (o : Outcome) → call_noted Own s me at f o ≡ call_noted Other s me at f o
+  call_same : (s : ℕ → Seen) (me : ThreadId) (at : Position) (f : Phase) (o : Outcome) →
+      call_noted Own s me at f o ≡ call_noted Other s me at f o
   call_same s me at f (outcome.Made id) = opens_same _ id f
   call_same s me at f o = refl
 
-  act_same : (s : ℕ → Seen) (me : ThreadId) (at : Position) (a : Act) (o : Outcome) → act_noted Own s me at a o ≡ act_noted Other s me at a o
+  act_same : (s : ℕ → Seen) (me : ThreadId) (at : Position) (a : Act) (o : Outcome) →
+      act_noted Own s me at a o ≡ act_noted Other s me at a o
   act_same s me at (act.Call f) o = call_same s me at f o
   act_same s me at a o = refl
 
@@ -46,7 +49,8 @@ module _ (Own : Programs) (gives : Position → Option Reply → Next) where
   noted_same s at None = refl
   noted_same s at (Some p) = act_same s p.who at p.act p.outcome
 
-  pub contexts_same : (c : CreateCall) (p : CreateAt) (r : Response) (s : ℕ → Context) → create_contexts Own c p r s ≡ create_contexts Other c p r s
+  pub contexts_same : (c : CreateCall) (p : CreateAt) (r : Response) (s : ℕ → Context) →
+      create_contexts Own c p r s ≡ create_contexts Other c p r s
   contexts_same c (create.Locked (create_locked.PlaceContext id)) asks.Placed s = refl
   contexts_same c (create.Locked (create_locked.CommitCreate id)) asks.Won s = refl
   contexts_same c p r s = refl
@@ -56,11 +60,13 @@ module _ (Own : Programs) (gives : Position → Option Reply → Next) where
   abbrev pub Agree : Position → Option Reply → Type 0
   Agree p l = (q : Position) (r : Option Reply) → Walks Other p l q r → Other.next q r ≡ Own.next q r
 
-  walk_own : (p : Position) (l : Option Reply) (q : Position) (r : Option Reply) → Agree p l → Walks Other p l q r → Walks Own p l q r
+  walk_own : (p : Position) (l : Option Reply) (q : Position) (r : Option Reply) → Agree p l → Walks Other p l q r →
+      Walks Own p l q r
   walk_own p l _ _ same here = here
   walk_own p l _ _ same (works q r count walk e) = works q r count (walk_own p l q r same walk) (sym (same q r walk) ∙ e)
 
-  begins_own : (p : Position) (l : Option Reply) (f : Phase) (after : Position) → Agree p l → Begins Other p l f after → Begins Own p l f after
+  begins_own : (p : Position) (l : Option Reply) (f : Phase) (after : Position) → Agree p l → Begins Other p l f after →
+      Begins Own p l f after
   begins_own p l f after same d = record {
     at = d.at;
     last = d.last;

@@ -19,16 +19,20 @@ module _ (script : Script) (w : World) (h : WorldHolds script w) (i : ℕ) (t : 
   abbrev Memo : Memory
   Memo = memory_of w
 
-  shown_thread : context_in Memo.context Memo.slot Memo.hand i ≡ Some (Thread t) → IsShown (h.board.seen i).word i t (h.board.context i)
-  shown_thread e = subst (λ (o : Option ContextSeen). ShowsContext (h.board.seen i).word i o (h.board.context i)) e (h.shows.shows.contexts i)
+  shown_thread : context_in Memo.context Memo.slot Memo.hand i ≡ Some (Thread t) →
+      IsShown (h.board.seen i).word i t (h.board.context i)
+  shown_thread e =
+      subst (λ (o : Option ContextSeen). ShowsContext (h.board.seen i).word i o (h.board.context i)) e (h.shows.shows.contexts i)
 
   pub serial_shown : context_in Memo.context Memo.slot Memo.hand i ≡ Some (Thread t) → (h.board.context i).serial ≡ t.serial
   serial_shown e = ap (λ (x : Context). x.serial) (shown_thread e).context
 
   -- of a thread that is made
-  pub between_shown : (r : Reply) → context_in Memo.context Memo.slot Memo.hand i ≡ Some (Thread t) → (state_at w i).version ≡ t.id.version
+  pub between_shown : (r : Reply) → context_in Memo.context Memo.slot Memo.hand i ≡ Some (Thread t) →
+      (state_at w i).version ≡ t.id.version
       → t.activity ≡ activity.Alone (location.Between (Some r)) → (h.board.context i).at ≡ Alone (location.Between (Some r))
   between_shown r e made doing =
       let version : (h.board.seen i).word.version ≡ t.id.version = sym (ap (λ v. v.version) (word_seen script w h i)) ∙ made in
-      let same : ((h.board.seen i).word.version == t.id.version) ≡ true = eq-eqb (h.board.seen i).word.version t.id.version version in
+      let same : ((h.board.seen i).word.version == t.id.version) ≡ true =
+      eq-eqb (h.board.seen i).word.version t.id.version version in
       ap (λ (x : Context). x.at) (shown_thread e).context ∙ rw same (ap at_in doing)

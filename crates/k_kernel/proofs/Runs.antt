@@ -31,7 +31,8 @@ switch_stands : (s : Option Switch) → switch_at s ≡ Coming → ⊥
 switch_stands None e = let no : Resting ≡ Coming = e in absurd cc
 switch_stands (Some s) e = absurd cc
 
-made_stands : (word : StateWord) (n : ℕ) (v : ContextSeen) (x : Context) → ShowsContext word n (Some v) x → IsMade word v → x.at ≡ Coming → ⊥
+made_stands : (word : StateWord) (n : ℕ) (v : ContextSeen) (x : Context) → ShowsContext word n (Some v) x → IsMade word v →
+    x.at ≡ Coming → ⊥
 made_stands word n (Thread t) x shown made e = let next = (shown.coming e).version in omega (arith, made, next)
 made_stands word n (Carrier k) x shown made e = switch_stands k.switch (sym shown ∙ e)
 
@@ -50,8 +51,11 @@ module _ (script : Script) (limits : IsScript script) (c : ℕ) (w : World) (h :
   in_hand : (x : HandSeen) → ask_of (carrier_at w c) ≡ Run x → M.hand c ≡ Some x
   in_hand x e = hand_is w c ∙ hand_of_run (carrier_at w c) x e
 
-  shown_in_hand : (x : HandSeen) → ask_of (carrier_at w c) ≡ Run x → ShowsContext (h.board.seen x.context).word x.context (Some x.value) (h.board.context x.context)
-  shown_in_hand x e = subst (λ (o : Option ContextSeen). ShowsContext (h.board.seen x.context).word x.context o (h.board.context x.context)) (held_is M.context M.slot M.hand c x h.shows.shows.places (in_hand x e)) (h.shows.shows.contexts x.context)
+  shown_in_hand : (x : HandSeen) → ask_of (carrier_at w c) ≡ Run x →
+      ShowsContext (h.board.seen x.context).word x.context (Some x.value) (h.board.context x.context)
+  shown_in_hand x e =
+      subst (λ (o : Option ContextSeen). ShowsContext (h.board.seen x.context).word x.context o (h.board.context x.context))
+      (held_is M.context M.slot M.hand c x h.shows.shows.places (in_hand x e)) (h.shows.shows.contexts x.context)
 
   -- a serial is one above the count of entries at most, of which there is a bound
   counted_here : (x : HandSeen) → HasRoom script → ask_of (carrier_at w c) ≡ Run x → IsCounted x.value
@@ -60,24 +64,30 @@ module _ (script : Script) (limits : IsScript script) (c : ℕ) (w : World) (h :
       by : (v : ContextSeen) → x.value ≡ v → IsCounted v
       by (Carrier k) q = tt
       by (Thread t) q =
-          let shown : IsShown (h.board.seen x.context).word x.context t (h.board.context x.context) = subst (λ (v : ContextSeen). ShowsContext (h.board.seen x.context).word x.context (Some v) (h.board.context x.context)) q (shown_in_hand x e) in
+          let shown : IsShown (h.board.seen x.context).word x.context t (h.board.context x.context) =
+          subst (λ (v : ContextSeen). ShowsContext (h.board.seen x.context).word x.context (Some v)
+          (h.board.context x.context)) q (shown_in_hand x e) in
           let serial : (h.board.context x.context).serial ≡ t.serial = ap (λ (y : Context). y.serial) shown.context in
           let low = h.serials.serials x.context in
           let few = whole_few script w.history h.state limits h.holds.ledgers.leads.follows in
           omega (arith, serial, low, few, room)
 
-  run_ready : (x : HandSeen) → HasRoom script → ask_of (carrier_at w c) ≡ Run x → CanRun script w x → IsSpelledIn script (Run x) → IsReady script h.board x.context x.value
+  run_ready : (x : HandSeen) → HasRoom script → ask_of (carrier_at w c) ≡ Run x → CanRun script w x → IsSpelledIn script (Run x) →
+      IsReady script h.board x.context x.value
   run_ready x room e can spelled = record {
     facts = facts_all script limits h.board w.history h.state h.holds x.context;
     locks = h.holds.proper.good.locks;
-    made = made_stands (h.board.seen x.context).word x.context x.value (h.board.context x.context) (shown_in_hand x e) (subst (λ (v : StateWord). IsMade v x.value) (word_seen script w h x.context) can.made);
+    made =
+        made_stands (h.board.seen x.context).word x.context x.value (h.board.context x.context) (shown_in_hand x e)
+        (subst (λ (v : StateWord). IsMade v x.value) (word_seen script w h x.context) can.made);
     sound = can.sound;
     asks = can.asks;
     counted = counted_here x room e;
     spelled = spelled;
   }
 
-  move_ready : (a : CarrierAsk) → HasRoom script → ask_of (carrier_at w c) ≡ a → CanMove script c w a → IsSpelledIn script a → IsMoveReady script c h.board (carrier_at w c) a
+  move_ready : (a : CarrierAsk) → HasRoom script → ask_of (carrier_at w c) ≡ a → CanMove script c w a → IsSpelledIn script a →
+      IsMoveReady script c h.board (carrier_at w c) a
   move_ready (Run x) room e can spelled = run_ready x room e can spelled
   move_ready (PutDown x) room e can spelled = tt
   move_ready (LookAt n) room e can spelled = tt
@@ -86,12 +96,20 @@ module _ (script : Script) (limits : IsScript script) (c : ℕ) (w : World) (h :
   pub moved_holds : IsGranted script → IsRunnable script c w → WorldHolds script (moved script c w)
   moved_holds granted r =
       let ready = move_ready (ask_of (carrier_at w c)) granted.room refl r.move r.spelled in
-      let sizes : IsStepWithin w (step_in script c w) = record { words = h.shows.whole.words; slots = h.shows.whole.slots; carrier = step_of_carrier script c w r.carrier; word = r.word; entry = r.entry } in
+      let sizes : IsStepWithin w (step_in script c w) = record {
+        words = h.shows.whole.words;
+        slots = h.shows.whole.slots;
+        carrier = step_of_carrier script c w r.carrier;
+        word = r.word;
+        entry = r.entry;
+      } in
       let grown = granted.entries w c h.board h.shows sizes ready in
       let later = grown.later in
       let before : Reached script h.board w.history = record { state = h.state; holds = h.holds; serials = h.serials } in
-      let after = turns_hold script limits (acting (ask_of (carrier_at w c))) later.count h.board later.board w.history later.turns before in
-      let reached : Reached script later.board (moved script c w).history = subst (Reached script later.board) (sym grown.history) after in
+      let after = turns_hold script limits
+      (acting (ask_of (carrier_at w c))) later.count h.board later.board w.history later.turns before in
+      let reached : Reached script later.board (moved script c w).history =
+      subst (Reached script later.board) (sym grown.history) after in
       record {
         board = later.board;
         state = reached.state;
@@ -101,6 +119,7 @@ module _ (script : Script) (limits : IsScript script) (c : ℕ) (w : World) (h :
       }
 
 -- the history has the entry of the step, if it makes one
-pub moved_history : (script : Script) (w : World) (c : ℕ) → (moved script c w).history ≡ recorded (entry_of w (step_in script c w)) w.history
+pub moved_history : (script : Script) (w : World) (c : ℕ) →
+    (moved script c w).history ≡ recorded (entry_of w (step_in script c w)) w.history
 unfolding moved
 moved_history script w c = refl

@@ -18,6 +18,7 @@ module _ (script : Script) (limits : IsScript script) (granted : IsGranted scrip
   turned_holds w (run.Slice c) can h = sliced_holds script w h c
   turned_holds w (run.Park c) can h = parked_holds script w h c
 
-  pub turns_hold : (turns : List Turn) (w : World) → AreRunnable script turns w → WorldHolds script w → WorldHolds script (after_turns script turns w)
+  pub turns_hold : (turns : List Turn) (w : World) → AreRunnable script turns w → WorldHolds script w →
+      WorldHolds script (after_turns script turns w)
   turns_hold [] w can h = h
   turns_hold (t ∷ turns) w can h = turns_hold turns (turned script t w) can.1 (turned_holds w t can.0 h)

@@ -27,8 +27,16 @@ use Rattle.k_kernel.specs.Worlds.{WorldHolds}
 
 module _ (script : Script) (carriers : ℕ) (limits : IsScript script) (few : carriers ≤ 8) where
   -- both programs start alike
-  ranged_booted : (n : ℕ) → Booted (programs_of script) (boot_board script carriers) n → Booted (ranged_programs script) (boot_board script carriers) n
-  ranged_booted n (booted_thread program priority t) = booted_thread program priority (record { word = t.word; last = t.last; told = t.told; position = t.position; context = t.context })
+  ranged_booted : (n : ℕ) → Booted (programs_of script) (boot_board script carriers) n →
+      Booted (ranged_programs script) (boot_board script carriers) n
+  ranged_booted n (booted_thread program priority t) =
+      booted_thread program priority (record {
+        word = t.word;
+        last = t.last;
+        told = t.told;
+        position = t.position;
+        context = t.context;
+      })
   ranged_booted n (has_none dead at) = has_none dead at
   ranged_booted n (has_carrier dead at) = has_carrier dead at
 
@@ -41,10 +49,13 @@ module _ (script : Script) (carriers : ℕ) (limits : IsScript script) (few : ca
   aged_is n past = let none : has_thread script n ≡ false = grind (arith, nat_tests, past) in rw none refl
 
   program_is : (n : ℕ) → n < length script.threads → (thread_line script n).program ≡ program_at script n
-  program_is n inside = ap (λ (t : ThreadLine). t.program) (get_or_default script.threads n (record { priority = 0; program = 0 }) no_thread inside)
+  program_is n inside =
+      ap (λ (t : ThreadLine). t.program) (get_or_default script.threads n (record { priority = 0; program = 0 }) no_thread inside)
 
   place_within : (n : ℕ) → n < script.table → IsWithin script (boot_position script n)
-  place_within n inside = start_within script (thread_line script n).program (first_of_number n) limits (record { number = inside; first = omega arith; last = omega arith })
+  place_within n inside =
+      start_within script (thread_line script n).program (first_of_number n) limits
+      (record { number = inside; first = omega arith; last = omega arith })
 
   pub boot_opens : IsOpeningBoard script (boot_board script carriers)
   boot_opens = let agree = boot_numbers_agree script carriers limits few in record {
@@ -54,7 +65,9 @@ module _ (script : Script) (carriers : ℕ) (limits : IsScript script) (few : ca
       free = boot_free script carriers limits few;
       empty = λ n. refl;
       agree = agree;
-      count = length-map (table_numbers script) (λ (number : ℕ). (boot_state script number).version) ∙ length-range_with_len 0 script.table;
+      count =
+          length-map (table_numbers script) (λ (number : ℕ). (boot_state script number).version)
+          ∙ length-range_with_len 0 script.table;
       few = limits.lines.1;
       who = λ n. dead_is n (has_thread script n) refl;
       unused = λ n dead. (refl, refl);
@@ -66,7 +79,8 @@ module _ (script : Script) (carriers : ℕ) (limits : IsScript script) (few : ca
   }
 
   -- where what holds of each opening board is known
-  pub first_holds : ((s : Script) (b : Board) → IsScript s → IsOpeningBoard s b → BoardHolds s b [] (opened_for s)) → WorldHolds script (booted script carriers)
+  pub first_holds : ((s : Script) (b : Board) → IsScript s → IsOpeningBoard s b → BoardHolds s b [] (opened_for s)) →
+      WorldHolds script (booted script carriers)
   unfolding booted
   first_holds opens = record {
     board = boot_board script carriers;

@@ -14,7 +14,9 @@ use Rattle.k_marks.specs.Booted.{boot_counting}
 
 module _ (script : Script) (carriers n : ℕ) where
   -- a fact of the context of a number, if it has one
-  by_context : (P : ContextSeen → Type 0) → (has_thread script n ≡ true → P (first_thread script n)) → (is_carriers script carriers n ≡ true → P (carrier_of (n - script.table))) → (v : ContextSeen) → resting_in (boot_resting script carriers n) ≡ Some v → P v
+  by_context : (P : ContextSeen → Type 0) → (has_thread script n ≡ true → P (first_thread script n)) →
+      (is_carriers script carriers n ≡ true → P (carrier_of (n - script.table))) → (v : ContextSeen) →
+      resting_in (boot_resting script carriers n) ≡ Some v → P v
   by_context P thread carrier v e = by (has_thread script n) (is_carriers script carriers n) refl refl e
     where
       resting : Bool → Bool → Slot
@@ -34,10 +36,14 @@ module _ (script : Script) (carriers n : ℕ) where
 pub booted_unmarked : (script : Script) (carriers : ℕ) → IsUnmarked script.table (boot_counting script carriers)
 booted_unmarked script carriers = record {
   marks = refl;
-  number = λ n v e. by_context script carriers n (λ u. number_of script.table (owner_of u) ≡ n) (λ t. refl) (its_number script carriers n) v e;
+  number =
+      λ n v e. by_context script carriers n (λ u. number_of script.table (owner_of u) ≡ n) (λ t. refl)
+      (its_number script carriers n) v e;
   serial = λ n v e. by_context script carriers n (λ u. serial_of u ≡ 0) (λ t. refl) (λ c. refl) v e;
   done = λ n v e. by_context script carriers n (λ u. done_of u ≡ 0) (λ t. refl) (λ c. refl) v e;
-  known = λ n v e. by_context script carriers n (λ u. IsToCome (boot_counting script carriers).version (owner_of u) → ⊥) (not_to_come script carriers n) (λ c k. k) v e;
+  known =
+      λ n v e. by_context script carriers n (λ u. IsToCome (boot_counting script carriers).version (owner_of u) → ⊥)
+      (not_to_come script carriers n) (λ c k. k) v e;
 }
 
 pub booted_tallied : (script : Script) (carriers : ℕ) → IsTallied script.table (boot_counting script carriers)

@@ -20,7 +20,8 @@ use Rattle.k_switch.specs.Carriers as carriers
 use Rattle.k_switch.specs.Carriers.{can_ask_in, done_after, last_serial}
 use Rattle.k_switch.specs.Switches.{asked_location, at_of, location_after, to_goal, to_start}
 use Rattle.k_switch.specs.Switches as switches
-use Rattle.k_context.specs.Contexts.{Carrier, ContextSeen, Thread, asked, begun, resumed, step_of, with_switch, without_switch, woken}
+use Rattle.k_context.specs.Contexts.{Carrier, ContextSeen, Thread, asked, begun, resumed}
+use Rattle.k_context.specs.Contexts.{step_of, with_switch, without_switch, woken}
 use Rattle.k_marks.specs.Brief.{IsBrief, left_in, locked_left, switch_left}
 
 start_left : (start : Option ℕ) (back : Option Goal) → locked_left (to_start start back) ≤ 2
@@ -43,10 +44,14 @@ abbrev answer_at : SwitchCall → SwitchLocation → ℕ → Goods → Answer
 answer_at c l found home = answer_of (switches.step_of (record { call = c; location = l })) found home
 
 -- a step that isn't to be made again leaves one less
-location_left : (c : SwitchCall) (l : SwitchLocation) (found : ℕ) (home : Goods) → switches.can_ask l ≡ true → is_again (answer_at c l found home) ≡ false → switch_left (location_after c (asked_location c l) (answer_at c l found home)) + 1 ≤ switch_left l
+location_left : (c : SwitchCall) (l : SwitchLocation) (found : ℕ) (home : Goods) → switches.can_ask l ≡ true →
+    is_again (answer_at c l found home) ≡ false → switch_left (location_after c (asked_location c l) (answer_at c l found home)) +
+    1 ≤ switch_left l
 location_left c location.AcquireReady found home can again = by (found == lock_bits Free) again
   where
-    by : (free : Bool) → is_again (cond free (answered.Got home) (answered.Told (not_acquired (lock_word_of found)))) ≡ false → switch_left (location_after c location.AcquireReady (cond free (answered.Got home) (answered.Told (not_acquired (lock_word_of found))))) + 1 ≤ 4
+    by : (free : Bool) → is_again (cond free (answered.Got home) (answered.Told (not_acquired (lock_word_of found)))) ≡ false →
+        switch_left (location_after c location.AcquireReady (cond free (answered.Got home)
+        (answered.Told (not_acquired (lock_word_of found))))) + 1 ≤ 4
     by true q = omega (arith, goal_left c.start c.goal)
     by false q = absurd (no_both (not_got (lock_word_of found)) q)
 location_left c (location.Locked (LoadGoal goal) lists) found home can again = omega (arith, start_left c.start)
@@ -101,7 +106,9 @@ module _ (k : CarrierContext) (brief : k.done + left_in k.switch ≤ 4) where
         by (Some s) b q = omega (arith, b, left_some s.location q)
 
     -- the switch after the answer
-    moved_left : (o : Option Switch) → can_ask_in o ≡ true → is_again (answer_of (carriers.step_in o) found home) ≡ false → left_in (option_map (λ s. switches.moved s (answer_of (carriers.step_in o) found home)) (option_map switches.asked o)) + 1 ≤ left_in o
+    moved_left : (o : Option Switch) → can_ask_in o ≡ true → is_again (answer_of (carriers.step_in o) found home) ≡ false →
+        left_in (option_map (λ s. switches.moved s (answer_of (carriers.step_in o) found home)) (option_map switches.asked o)) +
+        1 ≤ left_in o
     moved_left None q again = absurd cc
     moved_left (Some s) q again = location_left s.call s.location found home q again
 
@@ -111,13 +118,19 @@ module _ (k : CarrierContext) (brief : k.done + left_in k.switch ≤ 4) where
         a : Answer
         a = answer_of (carriers.step_of k) found home
 
-        by : (again : Bool) → is_again a ≡ again → IsBrief (Carrier (cond again (carriers.asked k) (record (carriers.asked k) { done = done_after (carriers.asked k); switch = option_map (λ s. switches.moved s a) (carriers.asked k).switch })))
+        by : (again : Bool) → is_again a ≡ again → IsBrief (Carrier
+            (cond again (carriers.asked k) (record (carriers.asked k) {
+              done = done_after (carriers.asked k);
+              switch = option_map (λ s. switches.moved s a) (carriers.asked k).switch;
+            })))
         by true q = asked_brief
         by false q = omega (arith, brief, done_at_most k, moved_left k.switch can q)
 
 -- ANY CONTEXT
 
-pub step_brief : (script : Script) (v : ContextSeen) (found : ℕ) (home : Goods) → IsBrief v → ((k : CarrierContext) → v ≡ Carrier k → carriers.can_ask k ≡ true) → IsBrief (resumed (asked (begun script v)) (answer_of (step_of (begun script v)) found home))
+pub step_brief : (script : Script) (v : ContextSeen) (found : ℕ) (home : Goods) → IsBrief v →
+    ((k : CarrierContext) → v ≡ Carrier k → carriers.can_ask k ≡ true) →
+    IsBrief (resumed (asked (begun script v)) (answer_of (step_of (begun script v)) found home))
 step_brief script (Thread t) found home b can = tt
 step_brief script (Carrier k) found home b can = resumed_brief k b (can k refl) found home
 

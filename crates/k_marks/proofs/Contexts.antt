@@ -16,7 +16,8 @@ use Rattle.k_caller.specs.Threads.{ThreadSeen, begun_at, begun_next}
 use Rattle.k_caller.specs.Threads as threads
 use Rattle.k_switch.specs.declared.switch.SwitchCall.{SwitchCall}
 use Rattle.k_switch.specs.Carriers.{last_serial}
-use Rattle.k_context.specs.Contexts.{Carrier, ContextSeen, Thread, asked, begun, owner_of, resumed, serial_of, thread_of, with_switch, without_switch, woken}
+use Rattle.k_context.specs.Contexts.{Carrier, ContextSeen, Thread, asked, begun, owner_of, resumed}
+use Rattle.k_context.specs.Contexts.{serial_of, thread_of, with_switch, without_switch, woken}
 use Rattle.k_marks.specs.Counting.{Goes, IsNew, begins, stands_still, stays}
 
 -- A STEP
@@ -66,15 +67,20 @@ with_goes c (Carrier k) l = elim (cases_lt k.serial last_serial) [
 
 -- A CALL BEGINS
 
-next_goes : (table : ℕ) (t u : ThreadSeen) (n : Next) → u.id ≡ t.id → u.serial ≡ t.serial → u.done ≡ t.done → t.serial < last_serial → Goes (Thread t) (Thread (begun_next table u n))
-next_goes table t u (next.Phase f) i s d l = begins (ap (λ (x : ThreadId). owner_of (Thread (record t { id = x }))) i) l (ap one_more s ∙ one_below t.serial l) refl
+next_goes : (table : ℕ) (t u : ThreadSeen) (n : Next) → u.id ≡ t.id → u.serial ≡ t.serial → u.done ≡ t.done →
+    t.serial < last_serial → Goes (Thread t) (Thread (begun_next table u n))
+next_goes table t u (next.Phase f) i s d l =
+    begins (ap (λ (x : ThreadId). owner_of (Thread (record t { id = x }))) i) l (ap one_more s ∙ one_below t.serial l) refl
 next_goes table t u (next.Work count) i s d l = stays (ap (λ (x : ThreadId). owner_of (Thread (record t { id = x }))) i) s d
 
-pub begun_goes : (script : Script) (v : ContextSeen) → ((t : ThreadSeen) (last : Option Reply) → v ≡ Thread t → t.activity ≡ activity.Alone (location.Between last) → t.serial < last_serial) → Goes v (begun script v)
+pub begun_goes : (script : Script) (v : ContextSeen) → ((t : ThreadSeen) (last : Option Reply) → v ≡ Thread t →
+    t.activity ≡ activity.Alone (location.Between last) → t.serial < last_serial) → Goes v (begun script v)
 begun_goes script (Thread t) l = by t.activity refl
   where
     by : (a : Activity) → t.activity ≡ a → Goes (Thread t) (Thread (begun_at script t a))
-    by (activity.Alone (location.Between last)) e = next_goes script.table t (record t { position = went_on t.position last }) (next_of script.version t.position last) refl refl refl (l t last refl e)
+    by (activity.Alone (location.Between last)) e =
+        next_goes script.table t (record t { position = went_on t.position last })
+        (next_of script.version t.position last) refl refl refl (l t last refl e)
     by a e = stays refl refl refl
 begun_goes script (Carrier k) l = stays refl refl refl
 

@@ -27,7 +27,8 @@ module _ (c : ℕ) (k : CarrierSeen) (w : World) (same : k.hand ≡ (carrier_at 
 
 pub started_contexts : (c number : ℕ) (w : World) (n : ℕ) → context_at (started c number w) n ≡ context_at w n
 unfolding started
-started_contexts c number w n = same_contexts c (flags.started number (carrier_at w c)) (record w { unstarted = slice_set w.unstarted number false }) refl n
+started_contexts c number w n =
+    same_contexts c (flags.started number (carrier_at w c)) (record w { unstarted = slice_set w.unstarted number false }) refl n
 
 pub sliced_contexts : (c : ℕ) (w : World) (n : ℕ) → context_at (sliced c w) n ≡ context_at w n
 unfolding sliced

@@ -11,16 +11,23 @@ use Rattle.k_world.specs.Lawful.{belongs_to, numbers_of}
 use Rattle.k_world.specs.Marks.{same_owner}
 use Rattle.k_world.proofs.Steps.{owner_same, owner_self}
 
-numbers_append : (o : Owner) (serial : ℕ) (marks more : List StepMark) → numbers_of o serial (marks ++ more) ≡ numbers_of o serial marks ++ numbers_of o serial more
-numbers_append o serial marks more = ap (map (λ (x : StepMark). x.number)) (filter-append (belongs_to o serial) marks more) ∙ map-append (λ (x : StepMark). x.number) (filter (belongs_to o serial) marks) (filter (belongs_to o serial) more)
+numbers_append : (o : Owner) (serial : ℕ) (marks more : List StepMark) →
+    numbers_of o serial (marks ++ more) ≡ numbers_of o serial marks ++ numbers_of o serial more
+numbers_append o serial marks more =
+    ap (map (λ (x : StepMark). x.number)) (filter-append (belongs_to o serial) marks more)
+    ∙ map-append (λ (x : StepMark). x.number) (filter (belongs_to o serial) marks) (filter (belongs_to o serial) more)
 
 -- a mark of another call
-pub numbers_other : (o : Owner) (serial : ℕ) (marks : List StepMark) (m : StepMark) → belongs_to o serial m ≡ false → numbers_of o serial (marks ++ m ∷ []) ≡ numbers_of o serial marks
+pub numbers_other : (o : Owner) (serial : ℕ) (marks : List StepMark) (m : StepMark) → belongs_to o serial m ≡ false →
+    numbers_of o serial (marks ++ m ∷ []) ≡ numbers_of o serial marks
 numbers_other o serial marks m f = numbers_append o serial marks (m ∷ []) ∙ rw f (append-nil (numbers_of o serial marks))
 
 -- a mark of this call
-pub numbers_own : (marks : List StepMark) (m : StepMark) → length (numbers_of m.owner m.serial (marks ++ m ∷ [])) ≡ length (numbers_of m.owner m.serial marks) + 1
-numbers_own marks m = ap length (numbers_append m.owner m.serial marks (m ∷ []) ∙ rw own refl) ∙ length_push (numbers_of m.owner m.serial marks) m.number
+pub numbers_own : (marks : List StepMark) (m : StepMark) →
+    length (numbers_of m.owner m.serial (marks ++ m ∷ [])) ≡ length (numbers_of m.owner m.serial marks) + 1
+numbers_own marks m =
+    ap length (numbers_append m.owner m.serial marks (m ∷ []) ∙ rw own refl)
+    ∙ length_push (numbers_of m.owner m.serial marks) m.number
   where
     own : belongs_to m.owner m.serial m ≡ true
     own = and_from (same_owner m.owner m.owner) (m.serial == m.serial) (owner_self m.owner) (eq-eqb m.serial m.serial refl)

@@ -31,7 +31,9 @@ use Rattle.k_carrier.specs.Resumed.{told_in}
 use Rattle.k_tokens.specs.World.{Condition, Absent, Awake, Asleep, Ended, Dead, World}
 use Rattle.k_tokens.specs.Good.{Holder}
 use Rattle.k_tokens.specs.Grants.{Grants, IsRun}
-use Rattle.k_tokens.specs.Steps.{ThreadStep, GoesOn, FindsOwned, FindsTaken, TurnsOn, AcquiresReady, Pushes, AcquiresTable, ReleasesTable, Kills, Unlists, Removes, Places, Makes, FallsAsleep, Ends, Dies, after_step, made_by, removed_by}
+use Rattle.k_tokens.specs.Steps.{ThreadStep, GoesOn, FindsOwned, FindsTaken, TurnsOn, AcquiresReady}
+use Rattle.k_tokens.specs.Steps.{Pushes, AcquiresTable, ReleasesTable, Kills, Unlists, Removes, Places}
+use Rattle.k_tokens.specs.Steps.{Makes, FallsAsleep, Ends, Dies, after_step, made_by, removed_by}
 use Rattle.k_grants.specs.Granted.{IsFound, IsMade, IsWait}
 use Rattle.k_moves.specs.Views.{condition_of}
 use Rattle.k_moves.specs.Told.{IsFree, IsPush, IsQuiet, IsTold, PushesFor, above_by, finding_by, wait_by}
@@ -55,7 +57,8 @@ alone_agreed serial location.Asleep = inl refl
 alone_agreed serial location.Ended = inr refl
 alone_agreed serial location.Dead = refl
 
-went_agreed : (serial : ℕ) (me : ThreadId) (own : StateWord) (a : Activity) → condition_of a ≡ Awake → (x : Went) → AreAgreed (activities.ran_after serial x) (condition_of (activities.after_went me own a x))
+went_agreed : (serial : ℕ) (me : ThreadId) (own : StateWord) (a : Activity) → condition_of a ≡ Awake → (x : Went) →
+    AreAgreed (activities.ran_after serial x) (condition_of (activities.after_went me own a x))
 went_agreed serial me own a e went.On = e
 went_agreed serial me own a e went.Again = e
 went_agreed serial me own a e (went.Pushed p) = e
@@ -64,15 +67,22 @@ went_agreed serial me own a e (went.Ends r) = refl
 went_agreed serial me own a e went.CallerDead = refl
 went_agreed serial me own a e went.Picks = refl
 
-step_agreed : (serial : ℕ) (me : ThreadId) (own : StateWord) (x : Activity) (a : Answer) → AreAgreed (activities.ran_at serial me own x a) (condition_of (activities.activity_after me own x a))
+step_agreed : (serial : ℕ) (me : ThreadId) (own : StateWord) (x : Activity) (a : Answer) →
+    AreAgreed (activities.ran_at serial me own x a) (condition_of (activities.activity_after me own x a))
 step_agreed serial me own (activity.Alone p) a = alone_agreed serial (alone.leads p (response_of a (alone.ask_of me own p)))
-step_agreed serial me own (activity.Send s) a = went_agreed serial me _ (activity.Send (send.resumed s a)) refl (activities.section_went (activity.Send s) a)
-step_agreed serial me own (activity.Receive s) a = went_agreed serial me _ (activity.Receive (receive.resumed s a)) refl (activities.section_went (activity.Receive s) a)
-step_agreed serial me own (activity.Create s) a = went_agreed serial me _ (activity.Create (create.resumed s a)) refl (activities.section_went (activity.Create s) a)
-step_agreed serial me own (activity.Destroy s) a = went_agreed serial me _ (activity.Destroy (destroy.resumed s a)) refl (activities.section_went (activity.Destroy s) a)
+step_agreed serial me own (activity.Send s) a =
+    went_agreed serial me _ (activity.Send (send.resumed s a)) refl (activities.section_went (activity.Send s) a)
+step_agreed serial me own (activity.Receive s) a =
+    went_agreed serial me _ (activity.Receive (receive.resumed s a)) refl (activities.section_went (activity.Receive s) a)
+step_agreed serial me own (activity.Create s) a =
+    went_agreed serial me _ (activity.Create (create.resumed s a)) refl (activities.section_went (activity.Create s) a)
+step_agreed serial me own (activity.Destroy s) a =
+    went_agreed serial me _ (activity.Destroy (destroy.resumed s a)) refl (activities.section_went (activity.Destroy s) a)
 
 thread_agreed : (t : ThreadSeen) (a : Answer) → is_again a ≡ false → AreAgreed (ran_of t a) (condition_of (resumed t a).activity)
-thread_agreed t a e = subst (λ (b : Bool). AreAgreed (if b then ran.Again else activities.ran_at t.serial t.id t.own t.activity a) (condition_of (if b then t else moved t a).activity)) (sym e) (step_agreed t.serial t.id t.own t.activity a)
+thread_agreed t a e =
+    subst (λ (b : Bool). AreAgreed (if b then ran.Again else activities.ran_at t.serial t.id t.own t.activity a)
+    (condition_of (if b then t else moved t a).activity)) (sym e) (step_agreed t.serial t.id t.own t.activity a)
 
 -- by the condition
 is_left : (r : Ran) (x : Condition) → AreAgreed r x → (x ≡ Asleep) ⊎ (x ≡ Ended) → r ≡ ran.Left
@@ -153,7 +163,9 @@ module _ (w : World) (c size me : ℕ) (goal : Option Goal) (l : Option Lock) (t
       by (answer.Told told.Placed) z = absurd cc
       by (answer.Told told.Removed) z = absurd cc
 
-  module _ (s : ThreadStep) (holder : ThreadId → Holder) (run : IsRun w c me holder) (grants : Grants w me s) (after : (after_step w c me s).threads.condition me ≡ condition_of (resumed t a).activity) (pushed : (p : ℕ) → ran_of t a ≡ ran.Pushed p → IsPush s) where
+  module _ (s : ThreadStep) (holder : ThreadId → Holder) (run : IsRun w c me holder) (grants : Grants w me s)
+      (after : (after_step w c me s).threads.condition me ≡ condition_of (resumed t a).activity)
+      (pushed : (p : ℕ) → ran_of t a ≡ ran.Pushed p → IsPush s) where
     abbrev R : Ran
     R = ran_of t a
 
@@ -162,7 +174,11 @@ module _ (w : World) (c size me : ℕ) (goal : Option Goal) (l : Option Lock) (t
       agreed = thread_agreed t a e
 
       up : IsUp ((after_step w c me s).threads.condition me) → (IsPush s → ⊥) → IsFree (told_in a) × IsQuiet R
-      up u never = (free_told a e, up_quiet R (condition_of (resumed t a).activity) agreed (subst IsUp after u) (λ p q. never (pushed p q)))
+      up u never = (
+        free_told a e,
+        up_quiet R (condition_of (resumed t a).activity) agreed (subst IsUp after u)
+            (λ p q. never (pushed p q)),
+      )
 
     removed_up : (v : Option ThreadId) → IsUp ((removed_by w.threads v).condition me)
     removed_up None = subst IsUp (sym run.awake) tt
@@ -172,29 +188,70 @@ module _ (w : World) (c size me : ℕ) (goal : Option Goal) (l : Option Lock) (t
     made_up p None = subst IsUp (sym run.awake) tt
     made_up p (Some n) = subst IsUp (sym run.awake) tt
 
-  granted_made : (s : ThreadStep) (holder : ThreadId → Holder) (run : IsRun w c me holder) (grants : Grants w me s) (after : (after_step w c me s).threads.condition me ≡ condition_of (resumed t a).activity) (pushed : (p : ℕ) → ran_of t a ≡ ran.Pushed p → IsPush s) → is_again a ≡ false → IsMade (above_by goal (ran_of t a)) s → IsTold w c size me goal l (told_in a) (ran_of t a) s
+  granted_made : (s : ThreadStep) (holder : ThreadId → Holder) (run : IsRun w c me holder) (grants : Grants w me s)
+      (after : (after_step w c me s).threads.condition me ≡ condition_of (resumed t a).activity)
+      (pushed : (p : ℕ) → ran_of t a ≡ ran.Pushed p → IsPush s) → is_again a ≡ false → IsMade (above_by goal (ran_of t a)) s →
+      IsTold w c size me goal l (told_in a) (ran_of t a) s
   granted_made (FindsOwned context wanted) holder run grants after pushed e made = absurd made
   granted_made FindsTaken holder run grants after pushed e made = absurd made
-  granted_made (Pushes seen held above) holder run grants after pushed e made = (free_told a e, subst (PushesFor goal (ran_of t a)) (sym made) (up_pushes goal (ran_of t a) (condition_of (resumed t a).activity) (thread_agreed t a e) (subst IsUp after (subst IsUp (sym run.awake) tt))))
-  granted_made FallsAsleep holder run grants after pushed e made = (free_told a e, is_left (ran_of t a) (condition_of (resumed t a).activity) (thread_agreed t a e) (inl (sym after ∙ upd_same w.threads.condition me Asleep)), (run.free grants.1).0)
-  granted_made Ends holder run grants after pushed e made = (free_told a e, is_left (ran_of t a) (condition_of (resumed t a).activity) (thread_agreed t a e) (inr (sym after ∙ upd_same w.threads.condition me Ended)), (run.free grants.1).0)
-  granted_made Dies holder run grants after pushed e made = (free_told a e, is_died (ran_of t a) (condition_of (resumed t a).activity) (thread_agreed t a e) (sym after ∙ upd_same w.threads.condition me Dead))
-  granted_made (GoesOn held) holder run grants after pushed e made = up (GoesOn held) holder run grants after pushed e (subst IsUp (sym run.awake) tt) (λ x. x)
-  granted_made (TurnsOn who) holder run grants after pushed e made = up (TurnsOn who) holder run grants after pushed e (subst IsUp (sym run.awake) tt) (λ x. x)
-  granted_made AcquiresReady holder run grants after pushed e made = up AcquiresReady holder run grants after pushed e (subst IsUp (sym run.awake) tt) (λ x. x)
-  granted_made AcquiresTable holder run grants after pushed e made = up AcquiresTable holder run grants after pushed e (subst IsUp (sym run.awake) tt) (λ x. x)
-  granted_made (ReleasesTable held) holder run grants after pushed e made = up (ReleasesTable held) holder run grants after pushed e (subst IsUp (sym run.awake) tt) (λ x. x)
-  granted_made (Kills number) holder run grants after pushed e made = up (Kills number) holder run grants after pushed e (subst IsUp (sym run.awake) tt) (λ x. x)
-  granted_made (Unlists held) holder run grants after pushed e made = up (Unlists held) holder run grants after pushed e (subst IsUp (sym run.awake) tt) (λ x. x)
-  granted_made Removes holder run grants after pushed e made = up Removes holder run grants after pushed e (removed_up Removes holder run grants after pushed w.threads.victim) (λ x. x)
-  granted_made (Places number) holder run grants after pushed e made = up (Places number) holder run grants after pushed e (upd_cases IsUp w.threads.condition number Awake me (λ _. tt) (λ _. subst IsUp (sym run.awake) tt)) (λ x. x)
-  granted_made (Makes priority) holder run grants after pushed e made = up (Makes priority) holder run grants after pushed e (made_up (Makes priority) holder run grants after pushed priority w.threads.making) (λ x. x)
+  granted_made (Pushes seen held above) holder run grants after pushed e made = (
+    free_told a e,
+    subst (PushesFor goal (ran_of t a)) (sym made)
+        (up_pushes goal (ran_of t a) (condition_of (resumed t a).activity) (thread_agreed t a e)
+        (subst IsUp after (subst IsUp (sym run.awake) tt))),
+  )
+  granted_made FallsAsleep holder run grants after pushed e made = (
+    free_told a e,
+    is_left (ran_of t a) (condition_of (resumed t a).activity) (thread_agreed t a e)
+        (inl (sym after ∙ upd_same w.threads.condition me Asleep)),
+    (run.free grants.1).0,
+  )
+  granted_made Ends holder run grants after pushed e made = (
+    free_told a e,
+    is_left (ran_of t a) (condition_of (resumed t a).activity) (thread_agreed t a e)
+        (inr (sym after ∙ upd_same w.threads.condition me Ended)),
+    (run.free grants.1).0,
+  )
+  granted_made Dies holder run grants after pushed e made = (
+    free_told a e,
+    is_died (ran_of t a) (condition_of (resumed t a).activity) (thread_agreed t a e)
+        (sym after ∙ upd_same w.threads.condition me Dead),
+  )
+  granted_made (GoesOn held) holder run grants after pushed e made =
+      up (GoesOn held) holder run grants after pushed e (subst IsUp (sym run.awake) tt) (λ x. x)
+  granted_made (TurnsOn who) holder run grants after pushed e made =
+      up (TurnsOn who) holder run grants after pushed e (subst IsUp (sym run.awake) tt) (λ x. x)
+  granted_made AcquiresReady holder run grants after pushed e made =
+      up AcquiresReady holder run grants after pushed e (subst IsUp (sym run.awake) tt) (λ x. x)
+  granted_made AcquiresTable holder run grants after pushed e made =
+      up AcquiresTable holder run grants after pushed e (subst IsUp (sym run.awake) tt) (λ x. x)
+  granted_made (ReleasesTable held) holder run grants after pushed e made =
+      up (ReleasesTable held) holder run grants after pushed e (subst IsUp (sym run.awake) tt) (λ x. x)
+  granted_made (Kills number) holder run grants after pushed e made =
+      up (Kills number) holder run grants after pushed e (subst IsUp (sym run.awake) tt) (λ x. x)
+  granted_made (Unlists held) holder run grants after pushed e made =
+      up (Unlists held) holder run grants after pushed e (subst IsUp (sym run.awake) tt) (λ x. x)
+  granted_made Removes holder run grants after pushed e made =
+      up Removes holder run grants after pushed e (removed_up Removes holder run grants after pushed w.threads.victim) (λ x. x)
+  granted_made (Places number) holder run grants after pushed e made =
+      up (Places number) holder run grants after pushed e (upd_cases IsUp w.threads.condition number Awake me (λ _. tt)
+      (λ _. subst IsUp (sym run.awake) tt)) (λ x. x)
+  granted_made (Makes priority) holder run grants after pushed e made =
+      up (Makes priority) holder run grants after pushed e (made_up
+      (Makes priority) holder run grants after pushed priority w.threads.making) (λ x. x)
 
-  pub granted_told : (s : ThreadStep) (holder : ThreadId → Holder) → IsRun w c me holder → Grants w me s → IsFound (finding_by size goal l (told_in a) (ran_of t a)) (is_again a) s → (after_step w c me s).threads.condition me ≡ condition_of (resumed t a).activity → ((p : ℕ) → ran_of t a ≡ ran.Pushed p → IsPush s) → IsTold w c size me goal l (told_in a) (ran_of t a) s
+  pub granted_told : (s : ThreadStep) (holder : ThreadId → Holder) → IsRun w c me holder → Grants w me s →
+      IsFound (finding_by size goal l (told_in a) (ran_of t a)) (is_again a) s →
+      (after_step w c me s).threads.condition me ≡ condition_of (resumed t a).activity →
+      ((p : ℕ) → ran_of t a ≡ ran.Pushed p → IsPush s) → IsTold w c size me goal l (told_in a) (ran_of t a) s
   granted_told s holder run grants found after pushed = by (is_again a) refl found
     where
-      by : (b : Bool) → is_again a ≡ b → IsFound (finding_by size goal l (told_in a) (ran_of t a)) b s → IsTold w c size me goal l (told_in a) (ran_of t a) s
-      by true e f = subst (IsTold w c size me goal l (told_in a) (ran_of t a)) (sym f) (waits_told e (ran_of t a) (subst IsQuiet (sym (ap (λ (b : Bool). if b then ran.Again else activities.ran_at t.serial t.id t.own t.activity a) e)) tt))
+      by : (b : Bool) → is_again a ≡ b → IsFound (finding_by size goal l (told_in a) (ran_of t a)) b s →
+          IsTold w c size me goal l (told_in a) (ran_of t a) s
+      by true e f =
+          subst (IsTold w c size me goal l (told_in a) (ran_of t a)) (sym f)
+          (waits_told e (ran_of t a) (subst IsQuiet
+          (sym (ap (λ (b : Bool). if b then ran.Again else activities.ran_at t.serial t.id t.own t.activity a) e)) tt))
       by false e f = granted_made s holder run grants after pushed e f
 
 pub waits_so : (size : ℕ) (l : Option Lock) (t : Option Told) → IsWait (wait_by size l t)

@@ -93,7 +93,8 @@ holds_in held (Some lock.Table) = held.table
 holds_in held (Some (lock.Thread number)) = is_lock_of number held.thread
 holds_in held (Some lock.Ready) = held.ready
 
-ranked_held : (t : Bool) (n : Option ℕ) (r : Bool) (wanted : Option Lock) → still_holds wanted (ranked t n r) ≡ holds_in (held_of (ranked t n r)) wanted
+ranked_held : (t : Bool) (n : Option ℕ) (r : Bool) (wanted : Option Lock) →
+    still_holds wanted (ranked t n r) ≡ holds_in (held_of (ranked t n r)) wanted
 ranked_held true None true None = refl
 ranked_held true None false None = refl
 ranked_held true (Some m) true None = refl
@@ -127,8 +128,11 @@ ranked_held false None false (Some (lock.Thread k)) = refl
 ranked_held false (Some m) true (Some (lock.Thread k)) = any_turns k m
 ranked_held false (Some m) false (Some (lock.Thread k)) = any_turns k m
 
-pub held_is : (held : List (Option Lock)) → AreRanked held → (wanted : Option Lock) → still_holds wanted held ≡ holds_in (held_of held) wanted
-held_is held r wanted = ap (still_holds wanted) r.are ∙ ranked_held r.table r.number r.ready wanted ∙ sym (ap (λ l. holds_in (held_of l) wanted) r.are)
+pub held_is : (held : List (Option Lock)) → AreRanked held → (wanted : Option Lock) →
+    still_holds wanted held ≡ holds_in (held_of held) wanted
+held_is held r wanted =
+    ap (still_holds wanted) r.are ∙ ranked_held r.table r.number r.ready wanted
+    ∙ sym (ap (λ l. holds_in (held_of l) wanted) r.are)
 
 -- a context of a thread that holds any
 pub any_is : (held : List (Option Lock)) → AreRanked held → holds_any held ≡ tokens.holds_any (held_of held)
@@ -154,7 +158,8 @@ ready_held (Some lock.Table) = refl
 ready_held (Some (lock.Thread number)) = refl
 ready_held (Some lock.Ready) = refl
 
-pub switch_held : (p : SwitchAt) (wanted : Option Lock) → still_holds wanted (switch.locks_of p) ≡ holds_by (holds_ready (stage_of p)) wanted
+pub switch_held : (p : SwitchAt) (wanted : Option Lock) →
+    still_holds wanted (switch.locks_of p) ≡ holds_by (holds_ready (stage_of p)) wanted
 switch_held switch.AcquireReady wanted = no_lock_held wanted
 switch_held (switch.Locked (locked.LoadGoal g)) wanted = ready_held wanted
 switch_held (switch.Locked (locked.LoadStart b n)) wanted = ready_held wanted

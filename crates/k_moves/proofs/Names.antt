@@ -1,5 +1,6 @@
 -- Contexts by number and by name.
-use Rattle.std.proofs.Common.{◌≡◌, ◌≢◌, ℕ, ◌+◌, ◌-◌, ◌<◌, ◌≤◌, ◌==◌, Bool, true, false, nat_lt, refl, sym, ap, ◌∙◌, arith, inl, inr, ◌⊎◌}
+use Rattle.std.proofs.Common.{◌≡◌, ◌≢◌, ℕ, ◌+◌, ◌-◌, ◌<◌, ◌≤◌, ◌==◌, Bool, true, false}
+use Rattle.std.proofs.Common.{nat_lt, refl, sym, ap, ◌∙◌, arith, inl, inr, ◌⊎◌}
 use Rattle.std.specs.Prelude.{if◌then◌else◌}
 use Rattle.std.proofs.lemmas.Bool.Decides.{eqb_tells, leb_tells, nat_tests}
 use Rattle.k_tokens.specs.World.{OfThread, OfCarrier}
@@ -47,16 +48,21 @@ pub same_name : (size a b : ℕ) → same_context (name_of size a) (name_of size
 same_name size a b = elim (which size a) [
   | inl x ↦ elim (which size b) [
     | inl y ↦ (λ z. same_context (x.1 z) (y.1 z))
-    | inr y ↦ (λ z. same_context (x.1 z) (y.1 z)) ∙ differ a b (λ e. let l = x.0 in let m = y.0 in absurd (omega (arith, e, l, m)))
+    | inr y ↦
+        (λ z. same_context (x.1 z) (y.1 z)) ∙ differ a b (λ e. let l = x.0 in let m = y.0 in absurd (omega (arith, e, l, m)))
   ]
   | inr x ↦ elim (which size b) [
-    | inl y ↦ (λ z. same_context (x.1 z) (y.1 z)) ∙ differ a b (λ e. let l = x.0 in let m = y.0 in absurd (omega (arith, e, l, m)))
-    | inr y ↦ (λ z. same_context (x.1 z) (y.1 z)) ∙ same_tests (a - size) (b - size) a b (λ e. let l = x.0 in let m = y.0 in omega (arith, e, l, m)) (λ e. omega (arith, e))
+    | inl y ↦
+        (λ z. same_context (x.1 z) (y.1 z)) ∙ differ a b (λ e. let l = x.0 in let m = y.0 in absurd (omega (arith, e, l, m)))
+    | inr y ↦
+        (λ z. same_context (x.1 z) (y.1 z)) ∙ same_tests (a - size) (b - size) a b
+        (λ e. let l = x.0 in let m = y.0 in omega (arith, e, l, m)) (λ e. omega (arith, e))
   ]
 ]
 
 pub own_name : (size c n : ℕ) → is_own c (name_of size n) ≡ (n == size + c)
 own_name size c n = elim (which size n) [
   | inl x ↦ ap (is_own c) x.1 ∙ differ n (size + c) (λ e. let l = x.0 in absurd (omega (arith, e, l)))
-  | inr x ↦ ap (is_own c) x.1 ∙ same_tests (n - size) c n (size + c) (λ e. let l = x.0 in omega (arith, e, l)) (λ e. omega (arith, e))
+  | inr x ↦
+      ap (is_own c) x.1 ∙ same_tests (n - size) c n (size + c) (λ e. let l = x.0 in omega (arith, e, l)) (λ e. omega (arith, e))
 ]

@@ -5,7 +5,8 @@ use Rattle.std.proofs.lemmas.Bool.Decides.{nat_tests}
 use Rattle.k_ids.specs.declared.threads.ThreadId.{ThreadId}
 use Rattle.k_ids.specs.declared.context_word.ContextWord.TheVariants.{Taken}
 use Rattle.k_tokens.specs.Maps.{put}
-use Rattle.k_tokens.specs.World.{OfThread, holds_any, Condition, Absent, Awake, Asleep, Ended, Dead, is_present, has_switch, OwnContext, Carrier, World, with_carrier}
+use Rattle.k_tokens.specs.World.{OfThread, holds_any, Condition, Absent, Awake, Asleep, Ended, Dead}
+use Rattle.k_tokens.specs.World.{is_present, has_switch, OwnContext, Carrier, World, with_carrier}
 use Rattle.k_tokens.specs.Good.{Holder, Nobody, IsGood, Parts}
 use Rattle.k_tokens.specs.Steps.{without_goal}
 use Rattle.k_tokens.proofs.Standing.{goes_off}
@@ -22,7 +23,8 @@ version_taken w t d v e = by (w.threads.condition t) e
     held_by None true q = absurd cc
     held_by None false q = absurd cc
 
-    by : (k : Condition) → thread_word k (w.held t) (holds_any (w.threads.locks t)) (w.threads.made t) ≡ Taken d v → w.threads.made t ≡ v
+    by : (k : Condition) → thread_word k (w.held t) (holds_any (w.threads.locks t)) (w.threads.made t) ≡ Taken d v →
+        w.threads.made t ≡ v
     by Absent q = absurd cc
     by Awake q = held_by (w.held t) (holds_any (w.threads.locks t)) q
     by Asleep q = held_by (w.held t) (holds_any (w.threads.locks t)) q
@@ -37,7 +39,9 @@ module _ (w : World) (at : ThreadId → Holder) (g : Parts w at) where
       by true e = let h = (g.threads.here x.number e).1 in grind (arith, nat_tests, h)
       by false e = refl
 
-  drops : (c : ℕ) (x : ThreadId) → (w.carrier c).goal ≡ Some x → (w.carrier c).switching ≡ false → (w.carrier c).hand ≡ None → (w.carrier c).looked ≡ None → is_present w.threads x ≡ false → Parts (with_carrier w c (without_goal (w.carrier c))) (put at x Nobody)
+  drops : (c : ℕ) (x : ThreadId) → (w.carrier c).goal ≡ Some x → (w.carrier c).switching ≡ false → (w.carrier c).hand ≡ None →
+      (w.carrier c).looked ≡ None → is_present w.threads x ≡ false →
+      Parts (with_carrier w c (without_goal (w.carrier c))) (put at x Nobody)
   drops c x has off free blind gone =
       let s = g.carriers c in
       let none = no_switch s off in
@@ -69,5 +73,8 @@ module _ (w : World) (at : ThreadId → Holder) (g : Parts w at) where
       none_of o e = rw e refl
 
 -- the carrier has nothing in hand, and was about to take its goal's context
-pub replaced_good : (w : World) (c : ℕ) (x : ThreadId) (d v : ℕ) → IsGood w → (w.carrier c).goal ≡ Some x → (w.carrier c).switching ≡ false → (w.carrier c).hand ≡ None → (w.carrier c).looked ≡ None → word_of w (OfThread x.number) ≡ Taken d v → v ≢ x.version → IsGood (with_carrier w c (without_goal (w.carrier c)))
-replaced_good w c x d v (at, g) has off free blind e ne = (put at x Nobody, drops w at g c x has off free blind (gone_by w at g x (λ z. ne (sym (version_taken w x.number d v e) ∙ z))))
+pub replaced_good : (w : World) (c : ℕ) (x : ThreadId) (d v : ℕ) → IsGood w → (w.carrier c).goal ≡ Some x →
+    (w.carrier c).switching ≡ false → (w.carrier c).hand ≡ None → (w.carrier c).looked ≡ None →
+    word_of w (OfThread x.number) ≡ Taken d v → v ≢ x.version → IsGood (with_carrier w c (without_goal (w.carrier c)))
+replaced_good w c x d v (at, g) has off free blind e ne =
+    (put at x Nobody, drops w at g c x has off free blind (gone_by w at g x (λ z. ne (sym (version_taken w x.number d v e) ∙ z))))

@@ -33,7 +33,9 @@ use Rattle.k_carrier.specs.Seen.{CarrierSeen}
 use Rattle.k_carrier.specs.declared.moves.Help.{Help}
 use Rattle.k_tokens.specs.World.{ContextName, OfThread, World, names}
 use Rattle.k_tokens.specs.World as tokens
-use Rattle.k_tokens.specs.Steps.{ThreadStep, GoesOn, FindsOwned, FindsTaken, TurnsOn, AcquiresReady, Pushes, AcquiresTable, ReleasesTable, Kills, Unlists, Removes, Places, Makes, FallsAsleep, Ends, Dies, after_step, helping, rescheduled, without_goal, without_goal_if}
+use Rattle.k_tokens.specs.Steps.{ThreadStep, GoesOn, FindsOwned, FindsTaken, TurnsOn, AcquiresReady, Pushes}
+use Rattle.k_tokens.specs.Steps.{AcquiresTable, ReleasesTable, Kills, Unlists, Removes, Places, Makes, FallsAsleep}
+use Rattle.k_tokens.specs.Steps.{Ends, Dies, after_step, helping, rescheduled, without_goal, without_goal_if}
 use Rattle.k_switching.specs.Rules as rules
 use Rattle.k_grants.specs.Views.{name_by}
 use Rattle.k_moves.specs.Views.{IsViewed, ShowsThread, carrier_view, goal_in, help_in, number_in}
@@ -45,7 +47,8 @@ use Rattle.k_moves.proofs.Switches.{upd_own}
 
 -- WHAT IS TOLD, part by part
 
-help_free : (size : ℕ) (p : Option Help) (l : Option Lock) (t : Option Told) → IsFree t → help_in size (help_after p l t) ≡ help_in size p
+help_free : (size : ℕ) (p : Option Help) (l : Option Lock) (t : Option Told) → IsFree t →
+    help_in size (help_after p l t) ≡ help_in size p
 help_free size p l None h = refl
 help_free size p l (Some (told.Loaded b)) h = refl
 help_free size p l (Some told.Stored) h = refl
@@ -58,7 +61,8 @@ help_free size p l (Some (told.Taken i c)) h = refl
 help_free size p l (Some (told.Owned i)) h = absurd h
 help_free size p l (Some (told.Holds i)) h = absurd h
 
-help_for : (size : ℕ) (p : Option Help) (l : Option Lock) (t : Option Told) (context : ContextName) (wanted : Option Lock) → HelpsFor size l t context wanted → help_in size (help_after p l t) ≡ Some (record { context = context; lock = wanted })
+help_for : (size : ℕ) (p : Option Help) (l : Option Lock) (t : Option Told) (context : ContextName) (wanted : Option Lock) →
+    HelpsFor size l t context wanted → help_in size (help_after p l t) ≡ Some (record { context = context; lock = wanted })
 help_for size p l None context wanted h = absurd h
 help_for size p l (Some (told.Loaded b)) context wanted h = absurd h
 help_for size p l (Some told.Stored) context wanted h = absurd h
@@ -102,7 +106,8 @@ carrier_after w me s x = x
 
 -- THE CARRIER
 
-stepped_carrier : (w : World) (c me : ℕ) (s : ThreadStep) → (after_step w c me s).carrier ≡ upd w.carrier c (carrier_after w me s (w.carrier c))
+stepped_carrier : (w : World) (c me : ℕ) (s : ThreadStep) →
+    (after_step w c me s).carrier ≡ upd w.carrier c (carrier_after w me s (w.carrier c))
 stepped_carrier w c me (GoesOn held) = upd_own w.carrier c (w.carrier c) refl
 stepped_carrier w c me (FindsOwned context wanted) = refl
 stepped_carrier w c me FindsTaken = upd_own w.carrier c (w.carrier c) refl
@@ -120,7 +125,9 @@ stepped_carrier w c me FallsAsleep = refl
 stepped_carrier w c me Ends = refl
 stepped_carrier w c me Dies = refl
 
-module _ (w : World) (k : CarrierSeen) (me : ℕ) (o : Owner) (l : Option Lock) (t : Option Told) (r : Ran) (same : names (goal_in k.goal) (tokens.owner_of w.threads me) ≡ is_goals k.goal o) (goal_is : (w.carrier k.number).goal ≡ goal_in k.goal) where
+module _ (w : World) (k : CarrierSeen) (me : ℕ) (o : Owner) (l : Option Lock) (t : Option Told) (r : Ran)
+    (same : names (goal_in k.goal) (tokens.owner_of w.threads me) ≡ is_goals k.goal o)
+    (goal_is : (w.carrier k.number).goal ≡ goal_in k.goal) where
   abbrev Came : tokens.Carrier
   Came = View k (help_in k.table (help_after k.help l t)) (goal_after k.goal o r) (resched_after k r)
 
@@ -137,11 +144,21 @@ module _ (w : World) (k : CarrierSeen) (me : ℕ) (o : Owner) (l : Option Lock) 
   turned false true = refl
   turned false false = refl
 
-  pushes : (above : Bool) → IsFree t → (r' : Ran) → r ≡ r' → PushesFor k.goal r' above → View k (help_in k.table (help_after k.help l t)) (goal_after k.goal o r') (resched_after k r') ≡ rescheduled (carrier_view k) above
-  pushes above f (ran.Pushed p) e h = λ z. View k (help_free k.table k.help l t f z) k.goal (k.resched || ((turned k.switching (is_above p k.goal) ∙ ap (λ (b : Bool). b && not k.switching) (sym h)) z))
-  pushes above f ran.On e h = λ z. View k (help_free k.table k.help l t f z) k.goal ((or_false k.resched ∙ ap (λ (b : Bool). k.resched || (b && not k.switching)) (sym h.1)) z)
-  pushes above f ran.Again e h = λ z. View k (help_free k.table k.help l t f z) k.goal ((or_false k.resched ∙ ap (λ (b : Bool). k.resched || (b && not k.switching)) (sym h.1)) z)
-  pushes above f (ran.Replied s x) e h = λ z. View k (help_free k.table k.help l t f z) k.goal ((or_false k.resched ∙ ap (λ (b : Bool). k.resched || (b && not k.switching)) (sym h.1)) z)
+  pushes : (above : Bool) → IsFree t → (r' : Ran) → r ≡ r' → PushesFor k.goal r' above →
+      View k (help_in k.table (help_after k.help l t)) (goal_after k.goal o r') (resched_after k r') ≡
+      rescheduled (carrier_view k) above
+  pushes above f (ran.Pushed p) e h =
+      λ z. View k (help_free k.table k.help l t f z) k.goal
+      (k.resched || ((turned k.switching (is_above p k.goal) ∙ ap (λ (b : Bool). b && not k.switching) (sym h)) z))
+  pushes above f ran.On e h =
+      λ z. View k (help_free k.table k.help l t f z) k.goal
+      ((or_false k.resched ∙ ap (λ (b : Bool). k.resched || (b && not k.switching)) (sym h.1)) z)
+  pushes above f ran.Again e h =
+      λ z. View k (help_free k.table k.help l t f z) k.goal
+      ((or_false k.resched ∙ ap (λ (b : Bool). k.resched || (b && not k.switching)) (sym h.1)) z)
+  pushes above f (ran.Replied s x) e h =
+      λ z. View k (help_free k.table k.help l t f z) k.goal
+      ((or_false k.resched ∙ ap (λ (b : Bool). k.resched || (b && not k.switching)) (sym h.1)) z)
   pushes above f ran.Left e h = absurd h.0
   pushes above f ran.Dead e h = absurd h.0
 
@@ -149,8 +166,11 @@ module _ (w : World) (k : CarrierSeen) (me : ℕ) (o : Owner) (l : Option Lock) 
   drops true = refl
   drops false = refl
 
-  leaves : IsFree t × (r ≡ ran.Left) × ((w.carrier k.number).goal ≡ Some (tokens.owner_of w.threads me)) → Came ≡ without_goal (carrier_view k)
-  leaves h = (λ z. View k (help_free k.table k.help l t h.0 z) (goal_after k.goal o (h.1 z)) (resched_after k (h.1 z))) ∙ (λ z. record (carrier_view k) { goal = goal_in (if gone z then None else k.goal) })
+  leaves : IsFree t × (r ≡ ran.Left) × ((w.carrier k.number).goal ≡ Some (tokens.owner_of w.threads me)) →
+      Came ≡ without_goal (carrier_view k)
+  leaves h =
+      (λ z. View k (help_free k.table k.help l t h.0 z) (goal_after k.goal o (h.1 z)) (resched_after k (h.1 z)))
+      ∙ (λ z. record (carrier_view k) { goal = goal_in (if gone z then None else k.goal) })
     where
       itself : (x : ThreadId) → names (Some x) x ≡ true
       itself x = λ z. eq x.number z && eq x.version z
@@ -159,13 +179,21 @@ module _ (w : World) (k : CarrierSeen) (me : ℕ) (o : Owner) (l : Option Lock) 
           eq n = grind (arith, nat_tests)
 
       gone : is_goals k.goal o ≡ true
-      gone = sym same ∙ ap (λ g. names g (tokens.owner_of w.threads me)) (sym goal_is ∙ h.2) ∙ itself (tokens.owner_of w.threads me)
+      gone =
+          sym same ∙ ap (λ g. names g (tokens.owner_of w.threads me)) (sym goal_is ∙ h.2) ∙ itself (tokens.owner_of w.threads me)
 
-  dies : IsFree t × (r ≡ ran.Dead) → Came ≡ without_goal_if (names (goal_in k.goal) (tokens.owner_of w.threads me)) (carrier_view k)
-  dies h = (λ z. View k (help_free k.table k.help l t h.0 z) (goal_after k.goal o (h.1 z)) (resched_after k (h.1 z))) ∙ (λ z. record (carrier_view k) { goal = (drops (is_goals k.goal o) ∙ ap (λ (b : Bool). if b then None else goal_in k.goal) (sym same)) z })
+  dies : IsFree t × (r ≡ ran.Dead) → Came ≡ without_goal_if (names (goal_in k.goal) (tokens.owner_of w.threads me))
+      (carrier_view k)
+  dies h =
+      (λ z. View k (help_free k.table k.help l t h.0 z) (goal_after k.goal o (h.1 z)) (resched_after k (h.1 z)))
+      ∙ (λ z. record (carrier_view k) {
+        goal = (drops (is_goals k.goal o)
+            ∙ ap (λ (b : Bool). if b then None else goal_in k.goal) (sym same)) z;
+      })
 
   pub came_to : (s : ThreadStep) → IsTold w k.number k.table me k.goal l t r s → Came ≡ carrier_after w me s (carrier_view k)
-  came_to (FindsOwned context wanted) h = λ z. View k (help_for k.table k.help l t context wanted h.0 z) (goal_quiet k.goal o r h.1 z) (resched_quiet k r h.1 z)
+  came_to (FindsOwned context wanted) h =
+      λ z. View k (help_for k.table k.help l t context wanted h.0 z) (goal_quiet k.goal o r h.1 z) (resched_quiet k r h.1 z)
   came_to (Pushes seen held above) h = pushes above h.0 r refl h.1
   came_to FallsAsleep h = leaves h
   came_to Ends h = leaves h
@@ -191,7 +219,8 @@ begun_is script t = by t.activity
     next_is u (next.Work count) = refl
 
     by : (a : Activity) → (threads.begun_at script t a).id ≡ t.id
-    by (activity.Alone (location.Between last)) = next_is (record t { position = went_on t.position last }) (next_of script.version t.position last)
+    by (activity.Alone (location.Between last)) =
+        next_is (record t { position = went_on t.position last }) (next_of script.version t.position last)
     by (activity.Alone location.FallAsleep) = refl
     by (activity.Alone location.LookAgain) = refl
     by (activity.Alone (location.LoadMail id)) = refl
@@ -210,18 +239,39 @@ begun_is script t = by t.activity
 abbrev pub Ready : Script → ThreadSeen → ContextSeen
 Ready script t = contexts.begun script (Thread t)
 
-module _ (script : Script) (w : World) (k : CarrierSeen) (n : ℕ) (t : ThreadSeen) (s : ThreadStep) (viewed : IsViewed w k) (asks : ask_of k ≡ Run (record { context = n; value = Thread t })) (shows : ShowsThread w.threads k.table n t) where
+module _ (script : Script) (w : World) (k : CarrierSeen) (n : ℕ) (t : ThreadSeen) (s : ThreadStep) (viewed : IsViewed w k)
+    (asks : ask_of k ≡ Run (record { context = n; value = Thread t })) (shows : ShowsThread w.threads k.table n t) where
   abbrev J : CarrierSeen
-  J = record k { hand = Some (record { context = n; value = contexts.asked (Ready script t) }); awaits = awaits.Step (lock_acquired (contexts.step_of (Ready script t))) }
+  J =
+      record k {
+        hand = Some (record { context = n; value = contexts.asked (Ready script t) });
+        awaits = awaits.Step (lock_acquired (contexts.step_of (Ready script t)));
+      }
 
   pub thread_steps : rules.carrier_step w k.number s ≡ after_step w k.number n s
-  thread_steps = hand_so w k (record { context = n; value = Thread t }) s false viewed (run_asks k (record { context = n; value = Thread t }) asks) shows ∙ ap (λ nm. rules.context_step w k.number nm s) (name_inside k.table n shows.inside)
+  thread_steps =
+      hand_so w k (record { context = n; value = Thread t }) s false viewed
+      (run_asks k (record { context = n; value = Thread t }) asks) shows
+      ∙ ap (λ nm. rules.context_step w k.number nm s) (name_inside k.table n shows.inside)
 
   view_is : carrier_view J ≡ w.carrier k.number
-  view_is = (λ z. record (carrier_view k) { hand = name_by k.table (number_in (sym (run_asks k (record { context = n; value = Thread t }) asks).hand z)) }) ∙ sym viewed
+  view_is =
+      (λ z. record (carrier_view k) {
+        hand = name_by k.table
+            (number_in (sym (run_asks k (record { context = n; value = Thread t }) asks).hand z));
+      }) ∙ sym viewed
 
   names_same : names (goal_in k.goal) (tokens.owner_of w.threads n) ≡ is_goals k.goal (owner.Thread (threads.begun script t).id)
-  names_same = named w k.table k.goal n (threads.begun script t) (ap (λ (x : ThreadId). x.number) (begun_is script t) ∙ shows.number) (shows.made ∙ sym (ap (λ (x : ThreadId). x.version) (begun_is script t)))
+  names_same =
+      named w k.table k.goal n (threads.begun script t) (ap (λ (x : ThreadId). x.number) (begun_is script t) ∙ shows.number)
+      (shows.made ∙ sym (ap (λ (x : ThreadId). x.version) (begun_is script t)))
 
-  pub thread_carrier : (a : Answer) → IsTold w k.number k.table n k.goal (lock_acquired (contexts.step_of (Ready script t))) (told_in a) (contexts.ran_of (contexts.asked (Ready script t)) a) s → (after_step w k.number n s).carrier ≡ upd w.carrier k.number (carrier_view (resumed (asked script k) (answers.Section a)))
-  thread_carrier a told = stepped_carrier w k.number n s ∙ ap (upd w.carrier k.number) (ap (carrier_after w n s) (sym view_is) ∙ sym (came_to w J n (owner.Thread (threads.begun script t).id) (lock_acquired (contexts.step_of (Ready script t))) (told_in a) (contexts.ran_of (contexts.asked (Ready script t)) a) names_same (ap (λ (c : tokens.Carrier). c.goal) viewed) s told) ∙ sym (ap (λ x. carrier_view (resumed (asked_by script k x) (answers.Section a))) asks))
+  pub thread_carrier : (a : Answer) → IsTold w k.number k.table n k.goal (lock_acquired (contexts.step_of (Ready script t)))
+      (told_in a) (contexts.ran_of (contexts.asked (Ready script t)) a) s →
+      (after_step w k.number n s).carrier ≡ upd w.carrier k.number (carrier_view (resumed (asked script k) (answers.Section a)))
+  thread_carrier a told =
+      stepped_carrier w k.number n s ∙ ap (upd w.carrier k.number)
+      (ap (carrier_after w n s) (sym view_is) ∙ sym (came_to w J n (owner.Thread (threads.begun script t).id)
+      (lock_acquired (contexts.step_of (Ready script t))) (told_in a)
+      (contexts.ran_of (contexts.asked (Ready script t)) a) names_same (ap (λ (c : tokens.Carrier). c.goal) viewed) s told)
+      ∙ sym (ap (λ x. carrier_view (resumed (asked_by script k x) (answers.Section a))) asks))

@@ -1,5 +1,6 @@
 -- Pairs begin, and are kept.
-use Rattle.std.proofs.Common.{◌≡◌, ℕ, ◌+◌, ◌<◌, Bool, true, false, refl, sym, ap, ◌∙◌, subst, Some, None, length, arith, ◌⊎◌, inl, inr}
+use Rattle.std.proofs.Common.{◌≡◌, ℕ, ◌+◌, ◌<◌, Bool, true, false, refl, sym, ap}
+use Rattle.std.proofs.Common.{◌∙◌, subst, Some, None, length, arith, ◌⊎◌, inl, inr}
 use Rattle.std.specs.Prelude.{◌==◌, ◌&&◌, ◌||◌}
 use Rattle.std.proofs.lemmas.Bool.{cases_lt}
 use Rattle.std.proofs.lemmas.Bool.Decides.{nat_tests}
@@ -16,7 +17,8 @@ use Rattle.k_board.specs.Words.{Programs}
 use Rattle.k_board.specs.Boards.{Alone, At, Board, InSwitch, Resting, owner_of}
 use Rattle.k_board.specs.Boots.{Booted}
 use Rattle.k_board.specs.Steps.{Answers, placed, switch_board}
-use Rattle.k_board.specs.Turns.{Turn, is_going, sends, receives, creates, destroys, goes_alone, begins, turns_to_work, wakes, switches, begins_switch, ends_switch}
+use Rattle.k_board.specs.Turns.{Turn, is_going, sends, receives, creates, destroys, goes_alone}
+use Rattle.k_board.specs.Turns.{begins, turns_to_work, wakes, switches, begins_switch, ends_switch}
 use Rattle.k_good.specs.Good.{NumbersAgree, QueuesTell}
 use Rattle.k_good.specs.Ranges.{NamesFit, is_threads}
 use Rattle.k_good.proofs.Goods.{good_keeps, good_start, supports}
@@ -60,7 +62,8 @@ size_stays g b i _ (ends_switch c s at) = refl
 
 -- AT THE START
 
-pub pair_begins : (g : Programs) (b : Board) (o : Opening) → ((n : ℕ) → Booted g b n) → ((l : Lock) → owner_of b l ≡ None) → NumbersAgree b.seen b.numbers b.context → length b.numbers.versions ≡ b.size
+pub pair_begins : (g : Programs) (b : Board) (o : Opening) → ((n : ℕ) → Booted g b n) → ((l : Lock) → owner_of b l ≡ None) →
+    NumbersAgree b.seen b.numbers b.context → length b.numbers.versions ≡ b.size
     → NamesFit g b.size → ((t : ℕ) → o.priority t < 64) → IsOpening g b o → IsPair g b (boot o)
 pair_begins g b o booted free numbers count names low h = record {
   good = good_start g b booted free numbers;
@@ -81,7 +84,8 @@ pair_begins g b o booted free numbers count names low h = record {
 
 module _ (g : Programs) (b : Board) (w : World) (h : IsPair g b w) where
   -- what of the board a turn keeps
-  pair_by : (i : ℕ) (b' : Board) (v : World) → QueuesTell b i → Turn g b i b' → PushesHold b' → tokens.IsGood v → AreAlike b' v → IsPair g b' v
+  pair_by : (i : ℕ) (b' : Board) (v : World) → QueuesTell b i → Turn g b i b' → PushesHold b' → tokens.IsGood v → AreAlike b' v →
+      IsPair g b' v
   pair_by i b' v q t p n l = record {
     good = good_keeps g b b' i h.good q t;
     within = within_keeps g b h.good.places h.within h.names i b' (supports g b i h.good q) t;
@@ -95,20 +99,35 @@ module _ (g : Programs) (b : Board) (w : World) (h : IsPair g b w) where
     no_thread : (step : ThreadStep) → ((t : ℕ) → (w.carrier c).hand ≡ Some (OfThread t) → ⊥) → Granted w c step
     no_thread step n t a = absurd (n t a.hand)
 
-    carriers_pair : (step : ThreadStep) (i : ℕ) (b' : Board) (v : World) → carrier_step w c step ≡ v → c < w.carriers → ((t : ℕ) → (w.carrier c).hand ≡ Some (OfThread t) → ⊥) → QueuesTell b i → Turn g b i b'
-        → ((b.context i).at ≡ Alone location.Asleep) ⊎ (is_threads (b.context i).at ≡ false) → AreAlike b' v → IsPair g b' (carrier_step w c step)
-    carriers_pair step i b' v e low n q t k l = pair_by i b' (carrier_step w c step) q t (carriers_keep g b i b' h.pushes k t) (step_good w c step h.world low (no_thread step n)) (subst (AreAlike b') (sym e) l)
+    carriers_pair : (step : ThreadStep) (i : ℕ) (b' : Board) (v : World) → carrier_step w c step ≡ v → c < w.carriers →
+        ((t : ℕ) → (w.carrier c).hand ≡ Some (OfThread t) → ⊥) → QueuesTell b i → Turn g b i b'
+        → ((b.context i).at ≡ Alone location.Asleep) ⊎ (is_threads (b.context i).at ≡ false) → AreAlike b' v →
+        IsPair g b' (carrier_step w c step)
+    carriers_pair step i b' v e low n q t k l =
+        pair_by i b' (carrier_step w c step) q t (carriers_keep g b i b' h.pushes k t)
+        (step_good w c step h.world low (no_thread step n)) (subst (AreAlike b') (sym e) l)
 
-    pub thread_pair : (i : ℕ) (b' : Board) (f : Finding) → IsAsked w c (OfThread i) → QueuesTell b i → IsWait f.waits → IsFreeToRemove b w i b' → (t : Turn g b i b') → GoesOn g b w c i b' f t
+    pub thread_pair : (i : ℕ) (b' : Board) (f : Finding) → IsAsked w c (OfThread i) → QueuesTell b i → IsWait f.waits →
+        IsFreeToRemove b w i b' → (t : Turn g b i b') → GoesOn g b w c i b' f t
     thread_pair i b' f asked q wait free t = record {
       step = s.step;
       kind = s.kind;
       pair = subst (λ (v : World). IsPair g b' v) (sym stepped)
-          (pair_by i b' (after_step w c i s.step) q t (pushes_stay g b b' w c i m q free t) (thread_good w c i m.holder m.parts m.run s.step s.grants) record { agrees = s.agrees; stages = stays s.step });
+          (pair_by i b' (after_step w c i s.step) q t (pushes_stay g b b' w c i m q free t)
+          (thread_good w c i m.holder m.parts m.run s.step s.grants) record { agrees = s.agrees; stages = stays s.step });
     }
       where
         m : MayTurn g b w c i
-        m = record { good = h.good; within = h.within; names = h.names; pushes = h.pushes; holder = h.world.0; parts = h.world.1; run = is_run w h.world.0 h.world.1 c i asked.hand asked.kept; agrees = h.alike.agrees }
+        m = record {
+          good = h.good;
+          within = h.within;
+          names = h.names;
+          pushes = h.pushes;
+          holder = h.world.0;
+          parts = h.world.1;
+          run = is_run w h.world.0 h.world.1 c i asked.hand asked.kept;
+          agrees = h.alike.agrees;
+        }
 
         s : IsGranted b' w c i f (is_again g b i b' t)
         s = turn_granted g b b' w c i f m wait free t
@@ -117,16 +136,21 @@ module _ (g : Programs) (b : Board) (w : World) (h : IsPair g b w) where
         stepped = ap (carrier_step_by w c s.step) asked.hand ∙ ap (hand_step w c (OfThread i) s.step) asked.kept
 
         stays : (step : ThreadStep) → StagesAre b' (after_step w c i step)
-        stays step d = subst (IsOwn (b'.context (b'.size + d)).at) (own_same step d) (stages_stay g b w c i m b' h.alike.stages t d)
+        stays step d =
+            subst (IsOwn (b'.context (b'.size + d)).at) (own_same step d) (stages_stay g b w c i m b' h.alike.stages t d)
           where
             own_same : (step : ThreadStep) (d : ℕ) → w.own d ≡ (after_step w c i step).own d
             own_same (Goes held) d = refl
             own_same step d = refl
 
-    pub switch_pair : (d : ℕ) (step : ThreadStep) → c < w.carriers → IsAsked w c (OfCarrier d) → (s : SwitchCall) (p : SwitchAt) (r : Response) → (b.context (b.size + d)).at ≡ InSwitch s p → is_going p ≡ true
-        → Answers b (switch.ask_of s p) r → QueuesTell b (b.size + d) → IsPair g (switch_board b (b.size + d) (b.context (b.size + d)) s p r) (carrier_step w c step)
+    pub switch_pair : (d : ℕ) (step : ThreadStep) → c < w.carriers → IsAsked w c (OfCarrier d) →
+        (s : SwitchCall) (p : SwitchAt) (r : Response) → (b.context (b.size + d)).at ≡ InSwitch s p → is_going p ≡ true
+        → Answers b (switch.ask_of s p) r → QueuesTell b (b.size + d) →
+        IsPair g (switch_board b (b.size + d) (b.context (b.size + d)) s p r) (carrier_step w c step)
     switch_pair d step low asked s p r at going an q =
-        carriers_pair step (b.size + d) _ (switch_step w c d (w.own d).stage) (ap (carrier_step_by w c step) asked.hand ∙ ap (hand_step w c (OfCarrier d) step) asked.kept) low (λ t e. other t (sym asked.hand ∙ e)) q
+        carriers_pair step (b.size + d) _ (switch_step w c d (w.own d).stage)
+        (ap (carrier_step_by w c step) asked.hand ∙ ap (hand_step w c (OfCarrier d) step) asked.kept) low
+        (λ t e. other t (sym asked.hand ∙ e)) q
         (switches s p r at going an) (inr (ap is_threads at)) (stage_alike b w h.alike c d h.world.0 h.world.1 s p r at going an)
       where
         other : (t : ℕ) → Some (OfCarrier d) ≡ Some (OfThread t) → ⊥
@@ -138,18 +162,28 @@ module _ (g : Programs) (b : Board) (w : World) (h : IsPair g b w) where
         by : None ≡ Some (OfThread t) → ⊥
         by z = cc
 
-    pub begin_pair : (step : ThreadStep) (s : SwitchCall) → c < w.carriers → (w.carrier c).hand ≡ None → carrier_step w c step ≡ begun_with w c (lowest (w.carrier c).starts 64) → (b.context (b.size + c)).at ≡ Resting
+    pub begin_pair : (step : ThreadStep) (s : SwitchCall) → c < w.carriers → (w.carrier c).hand ≡ None →
+        carrier_step w c step ≡ begun_with w c (lowest (w.carrier c).starts 64) → (b.context (b.size + c)).at ≡ Resting
         → IsFrom s (w.carrier c) (lowest (w.carrier c).starts 64) → QueuesTell b (b.size + c)
-        → IsPair g (placed b (b.size + c) (record (b.context (b.size + c)) { at = InSwitch s switch.AcquireReady })) (carrier_step w c step)
-    begin_pair step s low n e at f q = carriers_pair step (b.size + c) _ _ e low (nobody n) q (begins_switch s at) (inr (ap is_threads at)) (begins_alike b w h.alike c s at f)
+        → IsPair g (placed b (b.size + c) (record (b.context (b.size + c)) { at = InSwitch s switch.AcquireReady }))
+        (carrier_step w c step)
+    begin_pair step s low n e at f q =
+        carriers_pair step (b.size + c) _ _ e low (nobody n) q (begins_switch s at) (inr (ap is_threads at))
+        (begins_alike b w h.alike c s at f)
 
-    pub wake_pair : (i : ℕ) (step : ThreadStep) → c < w.carriers → (w.carrier c).hand ≡ None → carrier_step w c step ≡ taken_asleep w c i → i < b.size → (b.context i).at ≡ Alone location.Asleep → QueuesTell b i
+    pub wake_pair : (i : ℕ) (step : ThreadStep) → c < w.carriers → (w.carrier c).hand ≡ None →
+        carrier_step w c step ≡ taken_asleep w c i → i < b.size → (b.context i).at ≡ Alone location.Asleep → QueuesTell b i
         → IsPair g (placed b i (record (b.context i) { at = Alone location.LookAgain })) (carrier_step w c step)
-    wake_pair i step low n e inside at q = carriers_pair step i _ _ e low (nobody n) q (wakes at) (inl at) (wakes_alike b w h.alike c i inside at)
+    wake_pair i step low n e inside at q =
+        carriers_pair step i _ _ e low (nobody n) q (wakes at) (inl at) (wakes_alike b w h.alike c i inside at)
 
-    pub end_pair : (step : ThreadStep) (s : SwitchCall) (o : Switched) → c < w.carriers → (w.carrier c).hand ≡ Some (OfCarrier c) → (b.context (b.size + c)).at ≡ InSwitch s (switch.Finished o) → QueuesTell b (b.size + c)
+    pub end_pair : (step : ThreadStep) (s : SwitchCall) (o : Switched) → c < w.carriers →
+        (w.carrier c).hand ≡ Some (OfCarrier c) → (b.context (b.size + c)).at ≡ InSwitch s (switch.Finished o) →
+        QueuesTell b (b.size + c)
         → IsPair g (placed b (b.size + c) (record (b.context (b.size + c)) { at = Resting })) (carrier_step w c step)
-    end_pair step s o low hand at q = carriers_pair step (b.size + c) _ (given w c (OfCarrier c)) stepped low (λ t e. other t (sym hand ∙ e)) q (ends_switch s o at) (inr (ap is_threads at)) (ends_alike b w h.alike c s o at)
+    end_pair step s o low hand at q =
+        carriers_pair step (b.size + c) _ (given w c (OfCarrier c)) stepped low (λ t e. other t (sym hand ∙ e)) q
+        (ends_switch s o at) (inr (ap is_threads at)) (ends_alike b w h.alike c s o at)
       where
         other : (t : ℕ) → Some (OfCarrier c) ≡ Some (OfThread t) → ⊥
         other t e = cc

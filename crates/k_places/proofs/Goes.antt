@@ -72,9 +72,11 @@ pub fits_if : (t : Bool) (p q : Option Point) → FitsPoint p → FitsPoint q �
 fits_if true p q h k = h
 fits_if false p q h k = k
 
--- What a context is about then, and its own word, against the board: where it stands, its word, what it has in hand; what the locks
+-- What a context is about then, and its own word, against the board: where it stands, its word, what it has in hand; what the
+-- locks
 -- guard that it doesn't hold; what goes home; and the point.
-pub record Goes (b b' : Board) (a : Ask) (locks : List (Option Lock)) (doing : Activity) (own : StateWord) (p : At) (word : StateWord) (carried : Hand) (raw noted : Option Point) (V : Type 0) : Type 0 where
+pub record Goes (b b' : Board) (a : Ask) (locks : List (Option Lock)) (doing : Activity) (own : StateWord) (p : At)
+    (word : StateWord) (carried : Hand) (raw noted : Option Point) (V : Type 0) : Type 0 where
   pub at : at_in doing ≡ p
   pub own_word : section_own own doing ≡ word
   pub hand : hand_in doing ≡ held_on b' (locks_at p)
@@ -85,8 +87,19 @@ pub record Goes (b b' : Board) (a : Ask) (locks : List (Option Lock)) (doing : A
   pub version : V
 
 -- the same, where the exchange leaves the version
-pub versioned : {b b' : Board} {a : Ask} {locks : List (Option Lock)} {doing : Activity} {own : StateWord} {p : At} {word : StateWord} {carried : Hand} {raw noted : Option Point} {V : Type 0} (W : Type 0) → W → Goes b b' a locks doing own p word carried raw noted V → Goes b b' a locks doing own p word carried raw noted W
-versioned W w h = record { at = h.at; own_word = h.own_word; hand = h.hand; others = h.others; returned = h.returned; point = h.point; fits = h.fits; version = w }
+pub versioned : {b b' : Board} {a : Ask} {locks : List (Option Lock)} {doing : Activity} {own : StateWord} {p : At} {word :
+    StateWord} {carried : Hand} {raw noted : Option Point} {V : Type 0} (W : Type 0) → W →
+    Goes b b' a locks doing own p word carried raw noted V → Goes b b' a locks doing own p word carried raw noted W
+versioned W w h = record {
+  at = h.at;
+  own_word = h.own_word;
+  hand = h.hand;
+  others = h.others;
+  returned = h.returned;
+  point = h.point;
+  fits = h.fits;
+  version = w;
+}
 
 -- THE END OF A SECTION
 
@@ -112,7 +125,8 @@ ended_at me own s went.On h = absurd h
 ended_at me own s went.Again h = absurd h
 ended_at me own s (went.Pushed priority) h = absurd h
 
-pub ended_own : (me : ThreadId) (own : StateWord) (s : Activity) (w : Went) → IsEnd w → section_own own (after_went me own s w) ≡ own
+pub ended_own : (me : ThreadId) (own : StateWord) (s : Activity) (w : Went) → IsEnd w →
+    section_own own (after_went me own s w) ≡ own
 ended_own me own s (went.Ends r) h = refl
 ended_own me own s went.Waits h = refl
 ended_own me own s went.Picks h = refl
@@ -121,7 +135,8 @@ ended_own me own s went.On h = absurd h
 ended_own me own s went.Again h = absurd h
 ended_own me own s (went.Pushed priority) h = absurd h
 
-pub ended_hand : (b : Board) (me : ThreadId) (own : StateWord) (s : Activity) (w : Went) → IsEnd w → hand_in (after_went me own s w) ≡ held_on b (locks_at (after me w))
+pub ended_hand : (b : Board) (me : ThreadId) (own : StateWord) (s : Activity) (w : Went) → IsEnd w →
+    hand_in (after_went me own s w) ≡ held_on b (locks_at (after me w))
 ended_hand b me own s (went.Ends r) h = refl
 ended_hand b me own s went.Waits h = refl
 ended_hand b me own s went.Picks h = refl

@@ -57,13 +57,20 @@ owner_is b lock.Ready = refl
 
 module _ (m : Memory) (b : Board) (owners : ShowsOwners m.lock b.owner b.table b.ready) (homes : AreHome b.size m.home b) where
   -- what comes with a lock is what the board has of it
-  got_is : (l : Lock) → IsLockOf b.size l → (t : Bool) → (m.lock (lock_number l) == lock_bits locked.Free) ≡ t → (h : Hand) → hand_with (if t then answered.Got (goods_in (m.home (lock_number l))) else answered.Told (not_acquired (lock_word_of (m.lock (lock_number l))))) h ≡ hand_came (response_of (if t then answered.Got (goods_in (m.home (lock_number l))) else answered.Told (not_acquired (lock_word_of (m.lock (lock_number l))))) (asks.Acquire l)) (goods_on b l) h
+  got_is : (l : Lock) → IsLockOf b.size l → (t : Bool) → (m.lock (lock_number l) == lock_bits locked.Free) ≡ t → (h : Hand) →
+      hand_with (if t then answered.Got (goods_in (m.home (lock_number l))) else answered.Told
+      (not_acquired (lock_word_of (m.lock (lock_number l))))) h ≡
+      hand_came (response_of (if t then answered.Got (goods_in (m.home (lock_number l))) else answered.Told
+      (not_acquired (lock_word_of (m.lock (lock_number l))))) (asks.Acquire l)) (goods_on b l) h
   got_is l j true e h =
-      let free : owner_of b l ≡ None = sym (owner_is b l) ∙ owners l (is_lock b.size l j) ∙ ap (λ z. owner_in (lock_word_of z)) (eqb-true (m.lock (lock_number l)) (lock_bits locked.Free) e) ∙ ap owner_in (lock-read locked.Free) in
+      let free : owner_of b l ≡ None = sym (owner_is b l) ∙ owners l (is_lock b.size l j)
+      ∙ ap (λ z. owner_in (lock_word_of z)) (eqb-true (m.lock (lock_number l)) (lock_bits locked.Free) e)
+      ∙ ap owner_in (lock-read locked.Free) in
       ap (λ s. hand_with (answered.Got (goods_in s)) h) (homes l j free)
   got_is l j false e h = told_leaves (not_acquired (lock_word_of (m.lock (lock_number l)))) (asks.Acquire l) (goods_on b l) h
 
-  pub came_is : (a : Ask) (s h : Hand) → IsAskFit m b a → hand_with (answer_in m (step_for a s)) h ≡ hand_came (response_of (answer_in m (step_for a s)) a) (goods_asked a b) h
+  pub came_is : (a : Ask) (s h : Hand) → IsAskFit m b a →
+      hand_with (answer_in m (step_for a s)) h ≡ hand_came (response_of (answer_in m (step_for a s)) a) (goods_asked a b) h
   came_is (asks.Acquire l) s h f = got_is l f (m.lock (lock_number l) == lock_bits locked.Free) refl h
   came_is (asks.Release l) s h f = refl
   came_is (asks.Load n) s h f = refl

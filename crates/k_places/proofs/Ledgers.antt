@@ -17,7 +17,8 @@ use Rattle.k_model.specs.Maps.{upd}
 use Rattle.k_model.proofs.Maps.{upd_same, upd_other, upd_cases}
 use Rattle.k_script.specs.Plays.{Position}
 use Rattle.k_ipc.specs.Words.{is_joined_to}
-use Rattle.k_board.specs.Words.{Seen, Programs, act_noted, call_noted, calls, noted, opens, passes_to, pick_noted, sent_reply, tells, tells_sent}
+use Rattle.k_board.specs.Words.{Seen, Programs, act_noted, call_noted, calls, noted, opens}
+use Rattle.k_board.specs.Words.{passes_to, pick_noted, sent_reply, tells, tells_sent}
 use Rattle.k_places.specs.Memory.{new_serial, serials_with}
 use Rattle.k_places.specs.Answers.{entry_in}
 use Rattle.k_places.specs.Shows.{ShowsSeen}
@@ -72,22 +73,26 @@ alike_opens g s id (phase.Receive from zero) = alike_self
 alike_opens g s id (phase.Destroy who) = alike_self
 alike_opens g s id phase.End = alike_self
 
-alike_call : (g : Programs) (s : ℕ → Seen) (me : ThreadId) (p : Position) (f : Phase) (o : Outcome) → AreAlike s (call_noted g s me p f o)
+alike_call : (g : Programs) (s : ℕ → Seen) (me : ThreadId) (p : Position) (f : Phase) (o : Outcome) →
+    AreAlike s (call_noted g s me p f o)
 alike_call g s me p f outcome.Passed = alike_then (alike_calls s me p _) (alike_passes (calls s me p (sent_reply f)) me f)
 alike_call g s me p f outcome.Waits = alike_calls s me p None
-alike_call g s me p f (outcome.Took from message) = alike_then (alike_calls s me p _) (alike_sent (calls s me p (Some (reply.Got from message))) from)
+alike_call g s me p f (outcome.Took from message) =
+    alike_then (alike_calls s me p _) (alike_sent (calls s me p (Some (reply.Got from message))) from)
 alike_call g s me p f (outcome.Absent found) = alike_calls s me p _
 alike_call g s me p f (outcome.Busy found) = alike_calls s me p _
 alike_call g s me p f outcome.Nobody = alike_calls s me p _
 alike_call g s me p f outcome.Own = alike_calls s me p _
 alike_call g s me p f outcome.Killed = alike_calls s me p _
-alike_call g s me p f (outcome.Made id) = alike_then (alike_calls s me p _) (alike_opens g (calls s me p (Some (reply.Made id))) id f)
+alike_call g s me p f (outcome.Made id) =
+    alike_then (alike_calls s me p _) (alike_opens g (calls s me p (Some (reply.Made id))) id f)
 alike_call g s me p f (outcome.Full alive worn) = alike_calls s me p _
 alike_call g s me p f outcome.Ended = alike_calls s me p None
 alike_call g s me p f outcome.Freed = alike_self
 
 alike_pick : (s : ℕ → Seen) (me : ThreadId) (o : Outcome) → AreAlike s (pick_noted s me o)
-alike_pick s me (outcome.Took from message) = alike_then (alike_tells s me _) (alike_sent (tells s me (reply.Got from message)) from)
+alike_pick s me (outcome.Took from message) =
+    alike_then (alike_tells s me _) (alike_sent (tells s me (reply.Got from message)) from)
 alike_pick s me outcome.Passed = alike_self
 alike_pick s me outcome.Waits = alike_self
 alike_pick s me (outcome.Absent found) = alike_self
@@ -109,8 +114,10 @@ alike_noted g s at (Some p) = by p.act
     by act.Gone = alike_tells s p.who reply.Gone
     by act.Pick = alike_pick s p.who p.outcome
 
-pub noted_shown : (g : Programs) (st ml : ℕ → ℕ) (s : ℕ → Seen) (at : Position) (p : Option Point) → ShowsSeen st ml s → ShowsSeen st ml (noted g s at p)
-noted_shown g st ml s at p h n = let a = alike_noted g s at p in record { spelled = (h n).spelled; word = a.word n ∙ (h n).word; mail = a.mail n ∙ (h n).mail }
+pub noted_shown : (g : Programs) (st ml : ℕ → ℕ) (s : ℕ → Seen) (at : Position) (p : Option Point) → ShowsSeen st ml s →
+    ShowsSeen st ml (noted g s at p)
+noted_shown g st ml s at p h n =
+    let a = alike_noted g s at p in record { spelled = (h n).spelled; word = a.word n ∙ (h n).word; mail = a.mail n ∙ (h n).mail }
 
 -- SERIALS
 
@@ -119,7 +126,9 @@ HasLast s f = (n : ℕ) → (s n).last ≡ f n
 
 last_upd : (s : ℕ → Seen) (f : ℕ → ℕ) (k : ℕ) (v : Seen) (y : ℕ) → HasLast s f → v.last ≡ y → HasLast (upd s k v) (upd f k y)
 last_upd s f k v y h e n = elim (eqb_tells n k) [
-  | inl q ↦ subst (λ t. (upd s k v t).last ≡ upd f k y t) (sym q.1) (ap (λ (u : Seen). u.last) (upd_same s k v) ∙ e ∙ sym (upd_same f k y))
+  | inl q ↦
+      subst (λ t. (upd s k v t).last ≡ upd f k y t) (sym q.1)
+      (ap (λ (u : Seen). u.last) (upd_same s k v) ∙ e ∙ sym (upd_same f k y))
   | inr q ↦ ap (λ (u : Seen). u.last) (upd_other s k v n q.1) ∙ h n ∙ sym (upd_other f k y n q.1)
 ]
 
@@ -155,7 +164,8 @@ module _ (g : Programs) (s : ℕ → Seen) (f : ℕ → ℕ) (h : HasLast s f) (
   CallLast me p o = FitsOutcome (act.Call p) o → HasLast (call_noted g s me at p o) (new_serial o (Next me))
 
   made_last : (me : ThreadId) (p : Phase) (id : ThreadId) → CallLast me p (outcome.Made id)
-  made_last me (phase.Create program priority) id k = last_upd (calls s me at (Some (reply.Made id))) (Next me) id.number _ 0 (last_calls me _) refl
+  made_last me (phase.Create program priority) id k =
+      last_upd (calls s me at (Some (reply.Made id))) (Next me) id.number _ 0 (last_calls me _) refl
   made_last me (phase.Send to message zero joined) id k = absurd k
   made_last me (phase.Reply to message zero) id k = absurd k
   made_last me (phase.Receive from zero) id k = absurd k
@@ -177,7 +187,8 @@ module _ (g : Programs) (s : ℕ → Seen) (f : ℕ → ℕ) (h : HasLast s f) (
   last_call me p outcome.Freed k = absurd k
 
   -- what a gone or a pick makes of the serials: nothing
-  own_serial : (me : ThreadId) (o : Outcome) (s' : ℕ → Seen) → HasLast s' f → ((id : ThreadId) → o ≡ outcome.Made id → ⊥) → HasLast s' (new_serial o (upd f me.number (f me.number)))
+  own_serial : (me : ThreadId) (o : Outcome) (s' : ℕ → Seen) → HasLast s' f → ((id : ThreadId) → o ≡ outcome.Made id → ⊥) →
+      HasLast s' (new_serial o (upd f me.number (f me.number)))
   own_serial me (outcome.Made id) s' k ne = absurd (ne id refl)
   own_serial me outcome.Passed s' k ne = subst (HasLast s') (sym (upd_own f me.number)) k
   own_serial me outcome.Waits s' k ne = subst (HasLast s') (sym (upd_own f me.number)) k
@@ -215,7 +226,8 @@ module _ (g : Programs) (s : ℕ → Seen) (f : ℕ → ℕ) (h : HasLast s f) (
   last_noted None k = h
   last_noted (Some p) k = by p.act k
     where
-      by : (a : Act) → FitsOutcome a p.outcome → HasLast (act_noted g s p.who at a p.outcome) (new_serial p.outcome (upd f p.who.number (serial_for a (f p.who.number))))
+      by : (a : Act) → FitsOutcome a p.outcome → HasLast (act_noted g s p.who at a p.outcome)
+          (new_serial p.outcome (upd f p.who.number (serial_for a (f p.who.number))))
       by (act.Call c) k = last_call p.who c p.outcome k
       by act.Gone k = own_serial p.who p.outcome (tells s p.who reply.Gone) (last_tells s f p.who _ h) (ungone p.outcome k)
       by act.Pick k = own_serial p.who p.outcome (pick_noted s p.who p.outcome) (last_pick p.who p.outcome) (unmade p.outcome k)

@@ -1,5 +1,6 @@
 -- A move of a carrier in the raw world is a change of its maps.
-use Rattle.std.proofs.Common.{◌≡◌, ◌≢◌, ℕ, ◌+◌, ◌*◌, ◌<◌, ◌==◌, Bool, true, false, cond, refl, sym, ap, ◌∙◌, subst, List, length, get_or, Option, Some, None, arith, inl, inr}
+use Rattle.std.proofs.Common.{◌≡◌, ◌≢◌, ℕ, ◌+◌, ◌*◌, ◌<◌, ◌==◌, Bool, true, false, cond, refl, sym, ap}
+use Rattle.std.proofs.Common.{◌∙◌, subst, List, length, get_or, Option, Some, None, arith, inl, inr}
 use Rattle.std.specs.Prelude.{slice_set}
 use Rattle.std.proofs.lemmas.Bool.{cases_lt}
 use Rattle.std.proofs.lemmas.Bool.Decides.{eqb_tells}
@@ -26,10 +27,12 @@ use Rattle.k_carrier.specs.Moves.{MoveSeen}
 use Rattle.k_carrier.specs.Moves as move
 use Rattle.k_carrier.specs.Seen.{CarrierSeen, HandSeen, new_carrier}
 use Rattle.k_world.specs.Moves.{change_by, change_of, with_change, word_after, word_on, Change}
-use Rattle.k_world.specs.Steps.{CarrierStep, carrier_after, counted_serials, entry_of, moved_by, parked, running, sliced, started, with_new}
+use Rattle.k_world.specs.Steps.{CarrierStep, carrier_after, counted_serials, entry_of}
+use Rattle.k_world.specs.Steps.{moved_by, parked, running, sliced, started, with_new}
 use Rattle.k_world.specs.Worlds.{Slot, Away, World, word_at, carrier_at}
 use Rattle.k_places.specs.Fits.{IsEntryWithin, IsMadeWithin, IsStepWithin}
-use Rattle.k_places.specs.Memory.{Memory, Filling, Same, Home, Place, at, filling_by, home_filled, memory_with, slot_filled, filling_of, memory_from, memory_of, moved_maps, new_serial, serials_with, with_word, word_in}
+use Rattle.k_places.specs.Memory.{Memory, Filling, Same, Home, Place, at, filling_by, home_filled, memory_with, slot_filled}
+use Rattle.k_places.specs.Memory.{filling_of, memory_from, memory_of, moved_maps, new_serial, serials_with, with_word, word_in}
 
 -- LISTS AS MAPS
 
@@ -37,23 +40,30 @@ pub at_set : {A : Type 0} (xs : List A) (t : ℕ) (v d : A) → t < length xs �
 unfolding at
 at_set xs t v d lt = λ i u. at_point xs t v d lt u i
   where
-    at_point : {A : Type 0} (xs : List A) (t : ℕ) (v d : A) → t < length xs → (u : ℕ) → at (slice_set xs t v) d u ≡ upd (at xs d) t v u
+    at_point : {A : Type 0} (xs : List A) (t : ℕ) (v d : A) → t < length xs → (u : ℕ) →
+        at (slice_set xs t v) d u ≡ upd (at xs d) t v u
     at_point xs t v d lt u = elim (eqb_tells u t) [
-      | inl e ↦ ap (at (slice_set xs t v) d) e.1 ∙ get_or-set_same xs t v d lt ∙ sym (upd_same (at xs d) t v) ∙ ap (upd (at xs d) t v) (sym e.1)
+      | inl e ↦
+          ap (at (slice_set xs t v) d) e.1 ∙ get_or-set_same xs t v d lt ∙ sym (upd_same (at xs d) t v)
+          ∙ ap (upd (at xs d) t v) (sym e.1)
       | inr ne ↦ get_or-set_other xs t u v d ne.1 ∙ sym (upd_other (at xs d) t v u ne.1)
     ]
 
 -- a change of the whole map, seen through the places of one kind
-hit : {A : Type 0} (g : ℕ → ℕ) → ((x y : ℕ) → g x ≡ g y → x ≡ y) → (f : ℕ → A) (t : ℕ) (v : A) → ◌≡◌ {A = ℕ → A} (λ u. upd f (g t) v (g u)) (upd (λ x. f (g x)) t v)
+hit : {A : Type 0} (g : ℕ → ℕ) → ((x y : ℕ) → g x ≡ g y → x ≡ y) → (f : ℕ → A) (t : ℕ) (v : A) →
+    ◌≡◌ {A = ℕ → A} (λ u. upd f (g t) v (g u)) (upd (λ x. f (g x)) t v)
 hit {A} g inj f t v = λ d u. point u d
   where
     point : (u : ℕ) → upd f (g t) v (g u) ≡ upd (λ x. f (g x)) t v u
     point u = elim (eqb_tells u t) [
-      | inl e ↦ subst (λ z. upd f (g t) v (g z) ≡ upd (λ x. f (g x)) t v z) (sym e.1) (upd_same f (g t) v ∙ sym (upd_same (λ x. f (g x)) t v))
+      | inl e ↦
+          subst (λ z. upd f (g t) v (g z) ≡ upd (λ x. f (g x)) t v z) (sym e.1)
+          (upd_same f (g t) v ∙ sym (upd_same (λ x. f (g x)) t v))
       | inr ne ↦ upd_other f (g t) v (g u) (λ h. ne.1 (inj u t h)) ∙ sym (upd_other (λ x. f (g x)) t v u ne.1)
     ]
 
-miss : {A : Type 0} (g : ℕ → ℕ) (k : ℕ) → ((u : ℕ) → g u ≢ k) → (f : ℕ → A) (v : A) → ◌≡◌ {A = ℕ → A} (λ u. upd f k v (g u)) (λ u. f (g u))
+miss : {A : Type 0} (g : ℕ → ℕ) (k : ℕ) → ((u : ℕ) → g u ≢ k) → (f : ℕ → A) (v : A) →
+    ◌≡◌ {A = ℕ → A} (λ u. upd f k v (g u)) (λ u. f (g u))
 miss g k off f v = λ d u. upd_other f k v (g u) (off u) d
 
 abbrev word0 : ℕ → ℕ
@@ -146,7 +156,8 @@ module _ (ws : ℕ → ℕ) (ss : ℕ → Slot) (cs : ℕ → CarrierSeen) (sr :
     serial = sr;
   }
 
-hands : (cs : ℕ → CarrierSeen) (k : ℕ) (c : CarrierSeen) → ◌≡◌ {A = ℕ → Option HandSeen} (λ d. (upd cs k c d).hand) (upd (λ d. (cs d).hand) k c.hand)
+hands : (cs : ℕ → CarrierSeen) (k : ℕ) (c : CarrierSeen) →
+    ◌≡◌ {A = ℕ → Option HandSeen} (λ d. (upd cs k c d).hand) (upd (λ d. (cs d).hand) k c.hand)
 hands cs k c = λ i d. upd_hand d i
   where
     upd_hand : (d : ℕ) → (upd cs k c d).hand ≡ upd (λ x. (cs x).hand) k c.hand d
@@ -218,10 +229,14 @@ word_below (word.Context n) h = omega (arith, h)
 abbrev filled : Filling → Memory → Memory
 filled f m = record m { home = home_filled f m.home; slot = slot_filled f m.slot }
 
-slots_set : (ws : ℕ → ℕ) (xs : List Slot) (cs : ℕ → CarrierSeen) (sr : ℕ → ℕ) (f : Filling) → length xs ≡ 148 → IsFillWithin f → memory_from ws (at (with_change (change_for f) xs) Away) cs sr ≡ filled f (memory_from ws (at xs Away) cs sr)
+slots_set : (ws : ℕ → ℕ) (xs : List Slot) (cs : ℕ → CarrierSeen) (sr : ℕ → ℕ) (f : Filling) → length xs ≡ 148 → IsFillWithin f →
+    memory_from ws (at (with_change (change_for f) xs) Away) cs sr ≡ filled f (memory_from ws (at xs Away) cs sr)
 slots_set ws xs cs sr Same e h = refl
-slots_set ws xs cs sr (Home l x) e h = let b = home_below l h in ap (λ ss. memory_from ws ss cs sr) (at_set xs (home_of l) x Away (omega (arith, b, e))) ∙ home_set ws (at xs Away) cs sr (lock_number l) x
-slots_set ws xs cs sr (Place n x) e h = ap (λ ss. memory_from ws ss cs sr) (at_set xs (slot_of n) x Away (omega (arith, h, e))) ∙ slot_set ws (at xs Away) cs sr n x
+slots_set ws xs cs sr (Home l x) e h =
+    let b = home_below l h in ap (λ ss. memory_from ws ss cs sr) (at_set xs (home_of l) x Away (omega (arith, b, e)))
+    ∙ home_set ws (at xs Away) cs sr (lock_number l) x
+slots_set ws xs cs sr (Place n x) e h =
+    ap (λ ss. memory_from ws ss cs sr) (at_set xs (slot_of n) x Away (omega (arith, h, e))) ∙ slot_set ws (at xs Away) cs sr n x
 
 -- SERIALS
 
@@ -239,7 +254,8 @@ new_set (outcome.Full alive worn) xs h = refl
 new_set outcome.Ended xs h = refl
 new_set outcome.Freed xs h = refl
 
-serials_set : (e : Option Entry) (xs : List ℕ) → IsEntryWithin (length xs) e → at (counted_serials e xs) 0 ≡ serials_with e (at xs 0)
+serials_set : (e : Option Entry) (xs : List ℕ) → IsEntryWithin (length xs) e →
+    at (counted_serials e xs) 0 ≡ serials_with e (at xs 0)
 serials_set None xs h = refl
 serials_set (Some e) xs h =
     let size = length-set xs e.event.who.number e.event.serial in
@@ -256,13 +272,16 @@ word_is w (word.Lock l) = refl
 word_is w (word.Context n) = refl
 
 -- a word leaves the slots as they are
-after_word : (name : WordName) (v : ℕ) (f : Filling) (m : Memory) (h : ℕ → Option HandSeen) (sr : ℕ → ℕ) → memory_with m name v f h sr ≡ filled f (with_word name v (record m { hand = h; serial = sr }))
+after_word : (name : WordName) (v : ℕ) (f : Filling) (m : Memory) (h : ℕ → Option HandSeen) (sr : ℕ → ℕ) →
+    memory_with m name v f h sr ≡ filled f (with_word name v (record m { hand = h; serial = sr }))
 after_word (word.State n) v f m h sr = refl
 after_word (word.Mail n) v f m h sr = refl
 after_word (word.Lock l) v f m h sr = refl
 after_word (word.Context n) v f m h sr = refl
 
-pub maps_moved : (script : Script) (w : World) (s : CarrierStep) → IsStepWithin w s → memory_of (moved_by script w s) ≡ moved_maps script (memory_of w) s.number (running s.asked.hand) s.move (carrier_after s).hand (entry_of w s)
+pub maps_moved : (script : Script) (w : World) (s : CarrierStep) → IsStepWithin w s →
+    memory_of (moved_by script w s) ≡ moved_maps script (memory_of w) s.number (running s.asked.hand) s.move
+    (carrier_after s).hand (entry_of w s)
 maps_moved script w s h =
     let name = word_on s.move in
     let found = word_in (memory_of w) name in
@@ -273,40 +292,53 @@ maps_moved script w s h =
     let e = entry_of w s in
     let is : word_at w name ≡ found = word_is w name in
     let below = word_below name h.word in
-    let words : at (slice_set w.words (index_of name) (word_after i s.move (word_at w name))) 0 ≡ upd ws (index_of name) (word_after i s.move found) =
-    at_set w.words (index_of name) (word_after i s.move (word_at w name)) 0 (omega (arith, below, h.words)) ∙ ap (λ n. upd ws (index_of name) (word_after i s.move n)) is in
-    let slots : at (with_change (change_of script s.move (word_at w name)) w.slots) Away ≡ at (with_change (change_for (filling_of script s.move found)) w.slots) Away =
+    let words : at (slice_set w.words (index_of name) (word_after i s.move (word_at w name))) 0 ≡
+    upd ws (index_of name) (word_after i s.move found) =
+    at_set w.words (index_of name) (word_after i s.move (word_at w name)) 0 (omega (arith, below, h.words))
+    ∙ ap (λ n. upd ws (index_of name) (word_after i s.move n)) is in
+    let slots : at (with_change (change_of script s.move (word_at w name)) w.slots) Away ≡
+    at (with_change (change_for (filling_of script s.move found)) w.slots) Away =
     ap (λ c. at (with_change c w.slots) Away) (ap (change_of script s.move) is ∙ moves_slot script s.move found) in
     let carriers : at (slice_set w.carriers s.number (carrier_after s)) (new_carrier 0 0) ≡ upd cs s.number (carrier_after s) =
     at_set w.carriers s.number (carrier_after s) (new_carrier 0 0) h.carrier in
     let serials : at (counted_serials e w.serials) 0 ≡ serials_with e sr = serials_set e w.serials h.entry in
-    let first : memory_of (moved_by script w s) ≡ memory_from (upd ws (index_of name) (word_after i s.move found)) (at (with_change (change_for (filling_of script s.move found)) w.slots) Away) (upd cs s.number (carrier_after s)) (serials_with e sr) =
+    let first : memory_of (moved_by script w s) ≡ memory_from (upd ws (index_of name) (word_after i s.move found))
+    (at (with_change (change_for (filling_of script s.move found)) w.slots) Away) (upd cs s.number (carrier_after s))
+    (serials_with e sr) =
     λ d. memory_from (words d) (slots d) (carriers d) (serials d) in
     let f = filling_of script s.move found in
     let v = word_after i s.move found in
     first
-    ∙ slots_set (upd ws (index_of name) v) w.slots (upd cs s.number (carrier_after s)) (serials_with e sr) f h.slots (fill_within script s.move found h.word)
+    ∙ slots_set (upd ws (index_of name) v) w.slots (upd cs s.number (carrier_after s)) (serials_with e sr) f h.slots
+    (fill_within script s.move found h.word)
     ∙ ap (filled f) (word_set ws (at w.slots Away) (upd cs s.number (carrier_after s)) (serials_with e sr) name v)
-    ∙ ap (λ (hs : ℕ → Option HandSeen). filled f (with_word name v (record (memory_of w) { hand = hs; serial = serials_with e sr }))) (hands cs s.number (carrier_after s))
+    ∙ ap (λ (hs : ℕ → Option HandSeen). filled f (with_word name v
+    (record (memory_of w) { hand = hs; serial = serials_with e sr }))) (hands cs s.number (carrier_after s))
     ∙ sym (after_word name v f (memory_of w) (upd (memory_of w).hand s.number (carrier_after s).hand) (serials_with e sr))
 
 -- WITHOUT A STEP
 
 -- a carrier with the same in hand
-same_hands : (w : World) (c : ℕ) (k : CarrierSeen) → k.hand ≡ (carrier_at w c).hand → ◌≡◌ {A = ℕ → Option HandSeen} (λ d. (at (slice_set w.carriers c k) (new_carrier 0 0) d).hand) (λ d. (at w.carriers (new_carrier 0 0) d).hand)
+same_hands : (w : World) (c : ℕ) (k : CarrierSeen) → k.hand ≡ (carrier_at w c).hand →
+    ◌≡◌ {A = ℕ → Option HandSeen} (λ d. (at (slice_set w.carriers c k) (new_carrier 0 0) d).hand)
+    (λ d. (at w.carriers (new_carrier 0 0) d).hand)
 unfolding at
 same_hands w c k e = λ i d. point d i
   where
     point : (d : ℕ) → (get_or (slice_set w.carriers c k) d (new_carrier 0 0)).hand ≡ (get_or w.carriers d (new_carrier 0 0)).hand
     point d = elim (eqb_tells d c) [
       | inl q ↦ elim (cases_lt c (length w.carriers)) [
-        | inl l ↦ ap (λ n. (get_or (slice_set w.carriers c k) n (new_carrier 0 0)).hand) q.1 ∙ ap (λ (x : CarrierSeen). x.hand) (get_or-set_same w.carriers c k (new_carrier 0 0) l) ∙ e ∙ ap (λ n. (get_or w.carriers n (new_carrier 0 0)).hand) (sym q.1)
+        | inl l ↦
+            ap (λ n. (get_or (slice_set w.carriers c k) n (new_carrier 0 0)).hand) q.1
+            ∙ ap (λ (x : CarrierSeen). x.hand) (get_or-set_same w.carriers c k (new_carrier 0 0) l) ∙ e
+            ∙ ap (λ n. (get_or w.carriers n (new_carrier 0 0)).hand) (sym q.1)
         | inr g ↦ ap (λ (xs : List CarrierSeen). (get_or xs d (new_carrier 0 0)).hand) (set_past w.carriers c k g)
       ]
       | inr ne ↦ ap (λ (x : CarrierSeen). x.hand) (get_or-set_other w.carriers c d k (new_carrier 0 0) ne.1)
     ]
 
-with_hands : (w : World) (c : ℕ) (k : CarrierSeen) → k.hand ≡ (carrier_at w c).hand → memory_from (at w.words 0) (at w.slots Away) (at (slice_set w.carriers c k) (new_carrier 0 0)) (at w.serials 0) ≡ memory_of w
+with_hands : (w : World) (c : ℕ) (k : CarrierSeen) → k.hand ≡ (carrier_at w c).hand →
+    memory_from (at w.words 0) (at w.slots Away) (at (slice_set w.carriers c k) (new_carrier 0 0)) (at w.serials 0) ≡ memory_of w
 with_hands w c k e = ap (λ (hs : ℕ → Option HandSeen). record (memory_of w) { hand = hs }) (same_hands w c k e)
 
 pub maps_started : (c number : ℕ) (w : World) → memory_of (started c number w) ≡ memory_of w

@@ -44,7 +44,8 @@ none_by false None false lock.Table e h = absurd cc
 none_by false None false lock.Ready e h = absurd cc
 
 none_held : (p : At) (l : Lock) → holds_any (locks_at p) ≡ false → Holds l (locks_at p) → ⊥
-none_held p l e h = let r = ranked_at p in none_by r.table r.thread r.ready l (ap holds_any (sym r.is) ∙ e) (subst (Holds l) r.is h)
+none_held p l e h =
+    let r = ranked_at p in none_by r.table r.thread r.ready l (ap holds_any (sym r.is) ∙ e) (subst (Holds l) r.is h)
 
 -- the locks of a context are those of its location
 locks_in_at : (a : Activity) → locks_at (at_in a) ≡ about.locks_of a
@@ -58,12 +59,15 @@ switch_locks : (s : Option Switch) → locks_at (switch_at s) ≡ locks_in s
 switch_locks None = refl
 switch_locks (Some s) = refl
 
-thread_none : (t : ThreadSeen) (q : Bool) → holds_any (about.locks_of t.activity) ≡ false → holds_any (locks_at (if q then at_in t.activity else Coming)) ≡ false
+thread_none : (t : ThreadSeen) (q : Bool) → holds_any (about.locks_of t.activity) ≡ false →
+    holds_any (locks_at (if q then at_in t.activity else Coming)) ≡ false
 thread_none t true e = ap holds_any (locks_in_at t.activity) ∙ e
 thread_none t false e = refl
 
-shows_none : (w : StateWord) (n : ℕ) (v : ContextSeen) (x : Context) → ShowsContext w n (Some v) x → holds_any (locks_of v) ≡ false → holds_any (locks_at x.at) ≡ false
-shows_none w n (Thread t) x h e = ap (λ (z : Context). holds_any (locks_at z.at)) h.context ∙ thread_none t (w.version == t.id.version) e
+shows_none : (w : StateWord) (n : ℕ) (v : ContextSeen) (x : Context) → ShowsContext w n (Some v) x →
+    holds_any (locks_of v) ≡ false → holds_any (locks_at x.at) ≡ false
+shows_none w n (Thread t) x h e =
+    ap (λ (z : Context). holds_any (locks_at z.at)) h.context ∙ thread_none t (w.version == t.id.version) e
 shows_none w n (Carrier k) x h e = ap (λ p. holds_any (locks_at p)) h ∙ ap holds_any (switch_locks k.switch) ∙ e
 
 -- SOMEWHERE
@@ -81,14 +85,16 @@ switch_somewhere None e = absurd cc
 switch_somewhere (Some s) e = absurd cc
 
 somewhere : (w : StateWord) (n : ℕ) (v : ContextSeen) (x : Context) → ShowsContext w n (Some v) x → x.at ≡ Nowhere → ⊥
-somewhere w n (Thread t) x h e = made_somewhere (w.version == t.id.version) t.activity (sym (ap (λ (z : Context). z.at) h.context) ∙ e)
+somewhere w n (Thread t) x h e =
+    made_somewhere (w.version == t.id.version) t.activity (sym (ap (λ (z : Context). z.at) h.context) ∙ e)
 somewhere w n (Carrier k) x h e = switch_somewhere k.switch (sym h ∙ e)
 
 module _ (script : Script) (m : Memory) (b : Board) (sh : Shows script m b) (n : ℕ) where
   abbrev There : Option ContextSeen → Type 0
   There o = ShowsContext (b.seen n).word n o (b.context n)
 
-  resting : (s : Slot) (holds : Bool) (version : ℕ) → Rests s holds version → There (resting_in s) → (v : ContextSeen) × (There (Some v)) × (holds_any (locks_of v) ≡ holds)
+  resting : (s : Slot) (holds : Bool) (version : ℕ) → Rests s holds version → There (resting_in s) →
+      (v : ContextSeen) × (There (Some v)) × (holds_any (locks_of v) ≡ holds)
   resting (Resting v) holds version r t = (v, t, r.0)
   resting (Guarded g) holds version r t = absurd r
   resting Away holds version r t = absurd r
@@ -97,10 +103,12 @@ module _ (script : Script) (m : Memory) (b : Board) (sh : Shows script m b) (n :
   in_hand (Some k) version r t = (k.value, t)
   in_hand None version r t = absurd r
 
-  pub clean_free : LocksHold b.owner b.table b.ready b.context → (version : ℕ) → IsVersion version → m.context n ≡ context_bits (Clean version) → IsHolding b n
+  pub clean_free : LocksHold b.owner b.table b.ready b.context → (version : ℕ) → IsVersion version →
+      m.context n ≡ context_bits (Clean version) → IsHolding b n
   clean_free locks version whole e l q =
       let word : context_word_of (m.context n) ≡ Clean version = ap context_word_of e ∙ context-read (Clean version) whole in
-      let r = resting (m.slot n) false version (subst (Stands m.slot m.hand n) word (sh.places.stands n)) (subst (λ (w : ContextWord). There (context_by m.slot m.hand n w)) word (sh.contexts n)) in
+      let r = resting (m.slot n) false version (subst (Stands m.slot m.hand n) word (sh.places.stands n))
+      (subst (λ (w : ContextWord). There (context_by m.slot m.hand n w)) word (sh.contexts n)) in
       none_held (b.context n).at l (shows_none (b.seen n).word n r.0 (b.context n) r.1 r.2) (locks.held l n (owner_is l ∙ q))
     where
       owner_is : (k : Lock) → owner_by b.owner b.table b.ready k ≡ owner_of b k
@@ -111,8 +119,12 @@ module _ (script : Script) (m : Memory) (b : Board) (sh : Shows script m b) (n :
   pub nowhere_empty : (b.context n).at ≡ Nowhere → m.context n ≡ context_bits Empty
   nowhere_empty e = by (context_word_of (m.context n)) refl (sh.places.stands n) (sh.contexts n)
     where
-      by : (w : ContextWord) → context_word_of (m.context n) ≡ w → Stands m.slot m.hand n w → There (context_by m.slot m.hand n w) → m.context n ≡ context_bits Empty
+      by : (w : ContextWord) → context_word_of (m.context n) ≡ w → Stands m.slot m.hand n w →
+          There (context_by m.slot m.hand n w) → m.context n ≡ context_bits Empty
       by Empty q s t = sym (sh.places.spelled n).same ∙ ap context_bits q
-      by (Clean version) q s t = let r = resting (m.slot n) false version s t in absurd (somewhere (b.seen n).word n r.0 (b.context n) r.1 e)
-      by (HoldsOne version) q s t = let r = resting (m.slot n) true version s t in absurd (somewhere (b.seen n).word n r.0 (b.context n) r.1 e)
-      by (Taken c version) q s t = let r = in_hand (m.hand c) version s t in absurd (somewhere (b.seen n).word n r.0 (b.context n) r.1 e)
+      by (Clean version) q s t =
+          let r = resting (m.slot n) false version s t in absurd (somewhere (b.seen n).word n r.0 (b.context n) r.1 e)
+      by (HoldsOne version) q s t =
+          let r = resting (m.slot n) true version s t in absurd (somewhere (b.seen n).word n r.0 (b.context n) r.1 e)
+      by (Taken c version) q s t =
+          let r = in_hand (m.hand c) version s t in absurd (somewhere (b.seen n).word n r.0 (b.context n) r.1 e)

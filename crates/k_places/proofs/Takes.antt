@@ -26,21 +26,26 @@ abbrev pub with_places : Memory → (ℕ → ℕ) → (ℕ → Slot) → (ℕ �
 with_places m ctx sl hd = record m { context = ctx; slot = sl; hand = hd }
 
 -- where each context is in place, and each is the same, the board is the same
-pub same_contexts : (script : Script) (m : Memory) (b : Board) (ctx : ℕ → ℕ) (sl : ℕ → Slot) (hd : ℕ → Option HandSeen) → Shows script m b → AreInPlace ctx sl hd → ((j : ℕ) → context_in ctx sl hd j ≡ context_in m.context m.slot m.hand j) → Shows script (with_places m ctx sl hd) b
+pub same_contexts : (script : Script) (m : Memory) (b : Board) (ctx : ℕ → ℕ) (sl : ℕ → Slot) (hd : ℕ → Option HandSeen) →
+    Shows script m b → AreInPlace ctx sl hd → ((j : ℕ) → context_in ctx sl hd j ≡ context_in m.context m.slot m.hand j) →
+    Shows script (with_places m ctx sl hd) b
 same_contexts script m b ctx sl hd sh places same = record {
   size = sh.size;
   seen = sh.seen;
   serials = sh.serials;
   owners = sh.owners;
   places = places;
-  contexts = λ j. subst (λ (o : Option ContextSeen). ShowsContext (b.seen j).word j o (b.context j)) (sym (same j)) (sh.contexts j);
+  contexts =
+      λ j. subst (λ (o : Option ContextSeen). ShowsContext (b.seen j).word j o (b.context j)) (sym (same j)) (sh.contexts j);
   goods = record { homes = sh.goods.homes; hands = λ j v q. sh.goods.hands j v (sym (same j) ∙ q) };
 }
 
 -- A LOOK, or a take in vain
 
-pub nothing_changed : (script : Script) (m : Memory) (b : Board) (c n : ℕ) → Shows script m b → m.hand c ≡ None → Shows script (with_places m (upd m.context n (m.context n)) m.slot (upd m.hand c None)) b
-nothing_changed script m b c n sh none = subst (λ (z : Memory). Shows script z b) (λ d. with_places m (sym (upd_own m.context n) d) m.slot (back d)) sh
+pub nothing_changed : (script : Script) (m : Memory) (b : Board) (c n : ℕ) → Shows script m b → m.hand c ≡ None →
+    Shows script (with_places m (upd m.context n (m.context n)) m.slot (upd m.hand c None)) b
+nothing_changed script m b c n sh none =
+    subst (λ (z : Memory). Shows script z b) (λ d. with_places m (sym (upd_own m.context n) d) m.slot (back d)) sh
   where
     back : m.hand ≡ upd m.hand c None
     back = sym (ap (λ (z : Option HandSeen). upd m.hand c z) (sym none) ∙ upd_own m.hand c)
@@ -51,17 +56,23 @@ module _ (script : Script) (m : Memory) (b : Board) (c n : ℕ) (v : ContextSeen
   abbrev Hand : HandSeen
   Hand = record { context = n; value = v }
 
-  not_taken : (w : ContextWord) → context_word_of (m.context n) ≡ w → ((d version : ℕ) → w ≡ Taken d version → ⊥) → (d : ℕ) (k : HandSeen) → m.hand d ≡ Some k → k.context ≢ n
-  not_taken w e f d k q same = f d (version_held k) (sym e ∙ ap (λ z. context_word_of (m.context z)) (sym same) ∙ sh.places.taken d k q)
+  not_taken : (w : ContextWord) → context_word_of (m.context n) ≡ w → ((d version : ℕ) → w ≡ Taken d version → ⊥) →
+      (d : ℕ) (k : HandSeen) → m.hand d ≡ Some k → k.context ≢ n
+  not_taken w e f d k q same =
+      f d (version_held k) (sym e ∙ ap (λ z. context_word_of (m.context z)) (sym same) ∙ sh.places.taken d k q)
 
   taken_apart : m.hand c ≡ None → IsApart m.context m.slot m.hand n (Taken c (version_held Hand)) Away c (Some Hand)
   taken_apart none i version ne k = absurd (subst (λ (z : Option HandSeen). IsInHand z i version) none k)
 
   -- it lies there, and its word tells that
   abbrev IsLying : ContextWord → Type 0
-  IsLying w = (context_word_of (m.context n) ≡ w) × (context_in m.context m.slot m.hand n ≡ Some v) × ((d version : ℕ) → w ≡ Taken d version → ⊥)
+  IsLying w =
+      (context_word_of (m.context n) ≡ w) × (context_in m.context m.slot m.hand n ≡ Some v) ×
+      ((d version : ℕ) → w ≡ Taken d version → ⊥)
 
-  pub taken_shown : (w : ContextWord) → m.hand c ≡ None → IsLying w → IsContextWord (Taken c (version_held Hand)) → Shows script (with_places m (upd m.context n (context_bits (Taken c (version_held Hand)))) (upd m.slot n Away) (upd m.hand c (Some Hand))) b
+  pub taken_shown : (w : ContextWord) → m.hand c ≡ None → IsLying w → IsContextWord (Taken c (version_held Hand)) →
+      Shows script (with_places m (upd m.context n (context_bits (Taken c (version_held Hand)))) (upd m.slot n Away)
+      (upd m.hand c (Some Hand))) b
   taken_shown w none lying whole = same_contexts script m b _ _ _ sh places same
     where
       here : Stands (upd m.slot n Away) (upd m.hand c (Some Hand)) n (Taken c (version_held Hand))
@@ -70,16 +81,30 @@ module _ (script : Script) (m : Memory) (b : Board) (c n : ℕ) (v : ContextSeen
       some_is : {x y : HandSeen} → Some x ≡ Some y → x ≡ y
       some_is e = cc
 
-      mine : (k : HandSeen) → Some Hand ≡ Some k → context_word_of (upd m.context n (context_bits (Taken c (version_held Hand))) k.context) ≡ Taken c (version_held k)
-      mine k q = subst (λ (z : HandSeen). context_word_of (upd m.context n (context_bits (Taken c (version_held Hand))) z.context) ≡ Taken c (version_held z)) (some_is q) (ap context_word_of (upd_same m.context n _) ∙ context-read (Taken c (version_held Hand)) whole)
+      mine : (k : HandSeen) → Some Hand ≡ Some k → context_word_of
+          (upd m.context n (context_bits (Taken c (version_held Hand))) k.context) ≡ Taken c (version_held k)
+      mine k q =
+          subst (λ (z : HandSeen). context_word_of (upd m.context n (context_bits (Taken c (version_held Hand))) z.context) ≡
+          Taken c (version_held z)) (some_is q) (ap context_word_of (upd_same m.context n _)
+          ∙ context-read (Taken c (version_held Hand)) whole)
 
-      places : AreInPlace (upd m.context n (context_bits (Taken c (version_held Hand)))) (upd m.slot n Away) (upd m.hand c (Some Hand))
-      places = places_changed m.context m.slot m.hand n (Taken c (version_held Hand)) Away c (Some Hand) sh.places (taken_apart none) whole here mine (λ d k ne q. not_taken w lying.0 lying.2 d k q)
+      places : AreInPlace (upd m.context n (context_bits (Taken c (version_held Hand)))) (upd m.slot n Away)
+          (upd m.hand c (Some Hand))
+      places =
+          places_changed m.context m.slot m.hand n (Taken c (version_held Hand)) Away c (Some Hand) sh.places
+          (taken_apart none) whole here mine (λ d k ne q. not_taken w lying.0 lying.2 d k q)
 
-      same : (j : ℕ) → context_in (upd m.context n (context_bits (Taken c (version_held Hand)))) (upd m.slot n Away) (upd m.hand c (Some Hand)) j ≡ context_in m.context m.slot m.hand j
+      same : (j : ℕ) → context_in (upd m.context n (context_bits (Taken c (version_held Hand)))) (upd m.slot n Away)
+          (upd m.hand c (Some Hand)) j ≡ context_in m.context m.slot m.hand j
       same j = elim (eqb_tells j n) [
-        | inl e ↦ subst (λ (z : ℕ). context_in (upd m.context n (context_bits (Taken c (version_held Hand)))) (upd m.slot n Away) (upd m.hand c (Some Hand)) z ≡ context_in m.context m.slot m.hand z) (sym e.1) (this_is m.context m.slot m.hand n (Taken c (version_held Hand)) Away c (Some Hand) whole ∙ ap held_in (upd_same m.hand c (Some Hand)) ∙ sym lying.1)
-        | inr e ↦ others_same m.context m.slot m.hand n (Taken c (version_held Hand)) Away c (Some Hand) sh.places (taken_apart none) j e.1
+        | inl e ↦
+            subst (λ (z : ℕ). context_in (upd m.context n (context_bits (Taken c (version_held Hand)))) (upd m.slot n Away)
+            (upd m.hand c (Some Hand)) z ≡ context_in m.context m.slot m.hand z) (sym e.1)
+            (this_is m.context m.slot m.hand n (Taken c (version_held Hand)) Away c (Some Hand) whole
+            ∙ ap held_in (upd_same m.hand c (Some Hand)) ∙ sym lying.1)
+        | inr e ↦
+            others_same m.context m.slot m.hand n (Taken c (version_held Hand)) Away c (Some Hand) sh.places
+            (taken_apart none) j e.1
       ]
 
   -- A GIVE
@@ -87,19 +112,24 @@ module _ (script : Script) (m : Memory) (b : Board) (c n : ℕ) (v : ContextSeen
   given_apart : m.hand c ≡ Some Hand → IsApart m.context m.slot m.hand n (resting_word v) (Resting v) c None
   given_apart was i version ne k = absurd (ne (sym (subst (λ (z : Option HandSeen). IsInHand z i version) was k).0))
 
-  rests : (t : Bool) → holds_any (locks_of v) ≡ t → (sl : ℕ → Slot) (hd : ℕ → Option HandSeen) → sl n ≡ Resting v → Stands sl hd n (if t then Holds (version_held Hand) else Clean (version_held Hand))
+  rests : (t : Bool) → holds_any (locks_of v) ≡ t → (sl : ℕ → Slot) (hd : ℕ → Option HandSeen) → sl n ≡ Resting v →
+      Stands sl hd n (if t then Holds (version_held Hand) else Clean (version_held Hand))
   rests true e sl hd q = subst (λ (s : Slot). Rests s true (version_held Hand)) (sym q) (e, refl)
   rests false e sl hd q = subst (λ (s : Slot). Rests s false (version_held Hand)) (sym q) (e, refl)
 
-  rests_there : (t : Bool) (sl : ℕ → Slot) (hd : ℕ → Option HandSeen) → sl n ≡ Resting v → context_by sl hd n (if t then Holds (version_held Hand) else Clean (version_held Hand)) ≡ Some v
+  rests_there : (t : Bool) (sl : ℕ → Slot) (hd : ℕ → Option HandSeen) → sl n ≡ Resting v →
+      context_by sl hd n (if t then Holds (version_held Hand) else Clean (version_held Hand)) ≡ Some v
   rests_there true sl hd q = ap resting_in q
   rests_there false sl hd q = ap resting_in q
 
-  rests_whole : (t : Bool) → IsVersion (version_held Hand) → IsContextWord (if t then Holds (version_held Hand) else Clean (version_held Hand))
+  rests_whole : (t : Bool) → IsVersion (version_held Hand) →
+      IsContextWord (if t then Holds (version_held Hand) else Clean (version_held Hand))
   rests_whole true f = f
   rests_whole false f = f
 
-  pub given_shown : m.hand c ≡ Some Hand → IsVersion (version_held Hand) → Shows script (with_places m (upd m.context n (context_bits (resting_word v))) (upd m.slot n (Resting v)) (upd m.hand c None)) b
+  pub given_shown : m.hand c ≡ Some Hand → IsVersion (version_held Hand) →
+      Shows script (with_places m (upd m.context n (context_bits (resting_word v))) (upd m.slot n (Resting v))
+      (upd m.hand c None)) b
   given_shown was version = same_contexts script m b _ _ _ sh places same
     where
       whole : IsContextWord (resting_word v)
@@ -117,14 +147,23 @@ module _ (script : Script) (m : Memory) (b : Board) (c n : ℕ) (v : ContextSeen
           carrier_is : {x y a e : ℕ} → Taken x a ≡ Taken y e → x ≡ y
           carrier_is z = cc
 
-      none_some : (k : HandSeen) → None ≡ Some k → context_word_of (upd m.context n (context_bits (resting_word v)) k.context) ≡ Taken c (version_held k)
+      none_some : (k : HandSeen) → None ≡ Some k → context_word_of (upd m.context n (context_bits (resting_word v)) k.context) ≡
+          Taken c (version_held k)
       none_some k q = absurd cc
 
       places : AreInPlace (upd m.context n (context_bits (resting_word v))) (upd m.slot n (Resting v)) (upd m.hand c None)
-      places = places_changed m.context m.slot m.hand n (resting_word v) (Resting v) c None sh.places (given_apart was) whole (rests (holds_any (locks_of v)) refl (upd m.slot n (Resting v)) (upd m.hand c None) lies) none_some free
+      places =
+          places_changed m.context m.slot m.hand n (resting_word v) (Resting v) c None sh.places (given_apart was) whole
+          (rests (holds_any (locks_of v)) refl (upd m.slot n (Resting v)) (upd m.hand c None) lies) none_some free
 
-      same : (j : ℕ) → context_in (upd m.context n (context_bits (resting_word v))) (upd m.slot n (Resting v)) (upd m.hand c None) j ≡ context_in m.context m.slot m.hand j
+      same : (j : ℕ) → context_in (upd m.context n (context_bits (resting_word v))) (upd m.slot n (Resting v))
+          (upd m.hand c None) j ≡ context_in m.context m.slot m.hand j
       same j = elim (eqb_tells j n) [
-        | inl e ↦ subst (λ (z : ℕ). context_in (upd m.context n (context_bits (resting_word v))) (upd m.slot n (Resting v)) (upd m.hand c None) z ≡ context_in m.context m.slot m.hand z) (sym e.1) (this_is m.context m.slot m.hand n (resting_word v) (Resting v) c None whole ∙ rests_there (holds_any (locks_of v)) (upd m.slot n (Resting v)) (upd m.hand c None) lies ∙ sym (ap (context_by m.slot m.hand n) word_is ∙ ap held_in was))
+        | inl e ↦
+            subst (λ (z : ℕ). context_in (upd m.context n (context_bits (resting_word v))) (upd m.slot n (Resting v))
+            (upd m.hand c None) z ≡ context_in m.context m.slot m.hand z) (sym e.1)
+            (this_is m.context m.slot m.hand n (resting_word v) (Resting v) c None whole
+            ∙ rests_there (holds_any (locks_of v)) (upd m.slot n (Resting v)) (upd m.hand c None) lies
+            ∙ sym (ap (context_by m.slot m.hand n) word_is ∙ ap held_in was))
         | inr e ↦ others_same m.context m.slot m.hand n (resting_word v) (Resting v) c None sh.places (given_apart was) j e.1
       ]

@@ -6,7 +6,8 @@ use Rattle.k_locks.specs.Shown.{is_dead}
 use Rattle.k_locks.specs.Threads.{runs}
 use Rattle.k_board.specs.Words.{Seen}
 use Rattle.k_board.specs.Boards.{Board}
-use Rattle.k_board.specs.Moves.{Change, same, calls, settles, passes, delivers, takes, joins, frees_sender, frees_receiver, kills, makes, leaves, posts}
+use Rattle.k_board.specs.Moves.{Change, same, calls, settles, passes, delivers, takes, joins}
+use Rattle.k_board.specs.Moves.{frees_sender, frees_receiver, kills, makes, leaves, posts}
 use Rattle.k_grants.specs.Pushes.{WasKilled}
 
 -- destroyed by a context that owns the thread's lock and the table lock
@@ -18,7 +19,8 @@ pub record IsKilled (b : Board) (j t : ℕ) (v : StateWord) : Type 0 where
 
 module _ (b : Board) (j : ℕ) where
   -- A word of another thread that runs stays, but where the thread is destroyed.
-  pub run_stays : (t : ℕ) (v : Seen) → Change b j t v → t ≢ j → runs (b.seen t).word.state ≡ true → (v.word ≡ (b.seen t).word) ⊎ IsKilled b j t v.word
+  pub run_stays : (t : ℕ) (v : Seen) → Change b j t v → t ≢ j → runs (b.seen t).word.state ≡ true →
+      (v.word ≡ (b.seen t).word) ⊎ IsKilled b j t v.word
   run_stays _ _ (same t) ne r = inl refl
   run_stays _ _ (calls w q p run goes) ne r = absurd (ne refl)
   run_stays _ _ (settles v o ver al al2 ns us) ne r = absurd (ne refl)
@@ -35,7 +37,8 @@ module _ (b : Board) (j : ℕ) where
 
   -- A number's version stays, and a dead word stays dead; or the number has a new thread.
   versions : (t : ℕ) (v : Seen) → Change b j t v
-      → ((v.word.version ≡ (b.seen t).word.version) × (is_dead (b.seen t).word ≡ true → is_dead v.word ≡ true)) ⊎ (v.word.version ≡ (b.seen t).word.version + 1)
+      → ((v.word.version ≡ (b.seen t).word.version) × (is_dead (b.seen t).word ≡ true → is_dead v.word ≡ true)) ⊎
+      (v.word.version ≡ (b.seen t).word.version + 1)
   versions _ _ (same t) = inl (refl, λ d. d)
   versions _ _ (calls w q p run goes) = inl (goes.version, λ d. absurd (grind (arith, run, d)))
   versions _ _ (settles v o ver al al2 ns us) = inl (ver, λ d. absurd (let z : true ≡ false = sym d ∙ al in cc))
@@ -54,7 +57,8 @@ module _ (b : Board) (j : ℕ) where
   pub killed_stays : (who : ThreadId) (t : ℕ) (v : Seen) → Change b j t v → WasKilled (b.seen t).word who → WasKilled v.word who
   killed_stays who t v h k = by (versions t v h) k
     where
-      by : ((v.word.version ≡ (b.seen t).word.version) × (is_dead (b.seen t).word ≡ true → is_dead v.word ≡ true)) ⊎ (v.word.version ≡ (b.seen t).word.version + 1)
+      by : ((v.word.version ≡ (b.seen t).word.version) × (is_dead (b.seen t).word ≡ true → is_dead v.word ≡ true)) ⊎
+          (v.word.version ≡ (b.seen t).word.version + 1)
           → WasKilled (b.seen t).word who → WasKilled v.word who
       by (inl e) (inl l) = inl (subst (λ (n : ℕ). who.version < n) (sym e.0) l)
       by (inl e) (inr d) = inr (e.0 ∙ d.0, e.1 d.1)

@@ -21,10 +21,15 @@ module _ (g : Programs) (b : Board) (o : Opening) (h : IsOpening g b o) where
   outside : (n : ℕ) → o.threads ≤ n → is_thread o.threads n ≡ false
   outside n l = grind (arith, nat_tests, l)
 
-  sight_is : (n : ℕ) → sights_of b n ≡ cond (is_thread o.threads n) (sight_of (created_word 1 (o.priority n))) (sight_of (dead_word (o.aged n)))
+  sight_is : (n : ℕ) → sights_of b n ≡ cond (is_thread o.threads n) (sight_of (created_word 1 (o.priority n)))
+      (sight_of (dead_word (o.aged n)))
   sight_is n = elim (cases_lt n o.threads) [
-    | inl l ↦ ap sight_of (h.thread n l).1.word ∙ sym (ap (λ (d : Bool). cond d (sight_of (created_word 1 (o.priority n))) (sight_of (dead_word (o.aged n)))) (inside n l))
-    | inr l ↦ ap sight_of (h.none n l) ∙ sym (ap (λ (d : Bool). cond d (sight_of (created_word 1 (o.priority n))) (sight_of (dead_word (o.aged n)))) (outside n l))
+    | inl l ↦
+        ap sight_of (h.thread n l).1.word ∙ sym (ap (λ (d : Bool).
+        cond d (sight_of (created_word 1 (o.priority n))) (sight_of (dead_word (o.aged n)))) (inside n l))
+    | inr l ↦
+        ap sight_of (h.none n l) ∙ sym (ap (λ (d : Bool). cond d (sight_of (created_word 1 (o.priority n)))
+        (sight_of (dead_word (o.aged n)))) (outside n l))
   ]
 
   away_look : (n : ℕ) → ((b.context n).at ≡ Nowhere) ⊎ ((b.context n).at ≡ Resting) → looks_of b n ≡ plain Absent
@@ -33,7 +38,9 @@ module _ (g : Programs) (b : Board) (o : Opening) (h : IsOpening g b o) where
 
   look_is : (n : ℕ) → looks_of b n ≡ cond (is_thread o.threads n) (plain Awake) (plain Absent)
   look_is n = elim (cases_lt n o.threads) [
-    | inl l ↦ ap (λ (x : Context). look_at x.at) (h.thread n l).1.context ∙ sym (ap (λ (d : Bool). cond d (plain Awake) (plain Absent)) (inside n l))
+    | inl l ↦
+        ap (λ (x : Context). look_at x.at) (h.thread n l).1.context
+        ∙ sym (ap (λ (d : Bool). cond d (plain Awake) (plain Absent)) (inside n l))
     | inr l ↦ away_look n (h.away n l) ∙ sym (ap (λ (d : Bool). cond d (plain Awake) (plain Absent)) (outside n l))
   ]
 
@@ -53,26 +60,36 @@ module _ (g : Programs) (b : Board) (o : Opening) (h : IsOpening g b o) where
   version_is n = ap (λ (s : Sight). s.version) (sight_is n) ∙ cond_ap (λ (s : Sight). s.version) (is_thread o.threads n) _ _
 
   present_is : (n : ℕ) → (sights_of b n).present ≡ is_thread o.threads n
-  present_is n = ap (λ (s : Sight). s.present) (sight_is n) ∙ cond_ap (λ (s : Sight). s.present) (is_thread o.threads n) _ _ ∙ cond_self (is_thread o.threads n)
+  present_is n =
+      ap (λ (s : Sight). s.present) (sight_is n) ∙ cond_ap (λ (s : Sight). s.present) (is_thread o.threads n) _ _
+      ∙ cond_self (is_thread o.threads n)
 
   on_is : (n : ℕ) → (sights_of b n).on ≡ is_thread o.threads n
-  on_is n = ap (λ (s : Sight). s.on) (sight_is n) ∙ cond_ap (λ (s : Sight). s.on) (is_thread o.threads n) _ _ ∙ cond_self (is_thread o.threads n)
+  on_is n =
+      ap (λ (s : Sight). s.on) (sight_is n) ∙ cond_ap (λ (s : Sight). s.on) (is_thread o.threads n) _ _
+      ∙ cond_self (is_thread o.threads n)
 
   ended_is : (n : ℕ) → (sights_of b n).ended ≡ false
-  ended_is n = ap (λ (s : Sight). s.ended) (sight_is n) ∙ cond_ap (λ (s : Sight). s.ended) (is_thread o.threads n) _ _ ∙ cond_same (is_thread o.threads n) false
+  ended_is n =
+      ap (λ (s : Sight). s.ended) (sight_is n) ∙ cond_ap (λ (s : Sight). s.ended) (is_thread o.threads n) _ _
+      ∙ cond_same (is_thread o.threads n) false
 
-  look_part : {A : Type 0} (f : Look → A) (n : ℕ) → f (looks_of b n) ≡ cond (is_thread o.threads n) (f (plain Awake)) (f (plain Absent))
+  look_part : {A : Type 0} (f : Look → A) (n : ℕ) → f (looks_of b n) ≡
+      cond (is_thread o.threads n) (f (plain Awake)) (f (plain Absent))
   look_part f n = ap f (look_is n) ∙ cond_ap f (is_thread o.threads n) (plain Awake) (plain Absent)
 
   made_is : (n : ℕ) → made_by (looks_of b n).is_coming (sights_of b n).version ≡ cond (is_thread o.threads n) 1 (o.aged n)
-  made_is n = ap (λ (d : Bool). made_by d (sights_of b n).version) (look_part (λ (l : Look). l.is_coming) n ∙ cond_same (is_thread o.threads n) false) ∙ version_is n
+  made_is n =
+      ap (λ (d : Bool). made_by d (sights_of b n).version) (look_part (λ (l : Look). l.is_coming) n
+      ∙ cond_same (is_thread o.threads n) false) ∙ version_is n
 
   threads_begin : boot_threads o ≡ threads_of o.priority b
   threads_begin = sym (threads_are (λ z n. version_is n z) (λ z n. present_is n z) (λ z n. on_is n z) (λ z n. ended_is n z) refl
       (λ z n. look_part (λ (l : Look). l.condition) n z) (λ z n. made_is n z)
       (λ z n. (look_part (λ (l : Look). l.locks) n ∙ cond_same (is_thread o.threads n) no_locks) z)
       (λ z n. (look_part (λ (l : Look). l.push) n ∙ cond_same (is_thread o.threads n) None) z)
-      h.table (ap (by_owner {P = Look} None (λ (l : Look). l.victim) (looks_of b)) h.table) (ap (by_owner {P = Look} false (λ (l : Look). l.listed) (looks_of b)) h.table)
+      h.table (ap (by_owner {P = Look} None (λ (l : Look). l.victim) (looks_of b)) h.table)
+      (ap (by_owner {P = Look} false (λ (l : Look). l.listed) (looks_of b)) h.table)
       (ap (by_owner {P = Look} None (λ (l : Look). l.making) (looks_of b)) h.table))
 
   priority_is : (n : ℕ) → (sights_of b n).present ≡ true → o.priority n ≡ (sights_of b n).priority

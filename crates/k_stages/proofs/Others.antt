@@ -1,5 +1,6 @@
 -- Each carrier's own context but the one that moves stands as it stood.
-use Rattle.std.proofs.Common.{◌≡◌, ◌≢◌, ℕ, ◌+◌, ◌<◌, Bool, true, false, refl, sym, ap, ◌∙◌, subst, Option, Some, None, List, [], ◌∷◌, length, arith, inl, inr}
+use Rattle.std.proofs.Common.{◌≡◌, ◌≢◌, ℕ, ◌+◌, ◌<◌, Bool, true, false, refl, sym, ap, ◌∙◌, subst}
+use Rattle.std.proofs.Common.{Option, Some, None, List, [], ◌∷◌, length, arith, inl, inr}
 use Rattle.std.proofs.lemmas.Bool.Decides.{eqb_tells}
 use Rattle.k_ids.specs.declared.threads.ThreadId.{ThreadId}
 use Rattle.k_model.specs.Maps.{lowest, upd}
@@ -25,13 +26,15 @@ use Rattle.k_board.specs.Boards.{Alone, At, Board, Context, InCreate, InDestroy,
 use Rattle.k_board.specs.Facts.{AllSay}
 use Rattle.k_board.specs.Places.{facts_create, facts_of}
 use Rattle.k_board.specs.Steps.{Answers, create_contexts, destroy_contexts, placed, switch_board}
-use Rattle.k_board.specs.Turns.{Turn, is_going, sends, receives, creates, destroys, goes_alone, begins, turns_to_work, wakes, switches, begins_switch, ends_switch}
+use Rattle.k_board.specs.Turns.{Turn, is_going, sends, receives, creates, destroys, goes_alone}
+use Rattle.k_board.specs.Turns.{begins, turns_to_work, wakes, switches, begins_switch, ends_switch}
 use Rattle.k_good.specs.Ranges.{FitsAt, is_threads}
 use Rattle.k_tokens.specs.World.{OfCarrier, OwnContext, Stage, Threads, World}
 use Rattle.k_tokens.specs.World as stage
 use Rattle.k_tokens.specs.Good.{Holder, Parts}
 use Rattle.k_switching.specs.Rules.{begun_with, given, given_own, has_switched, taken_asleep}
-use Rattle.k_switching.specs.Switch.{acquired_by, before_take, first_taken, first_taken_by, first_taken_of, highest_filled, switch_step}
+use Rattle.k_switching.specs.Switch.{acquired_by, before_take, first_taken, first_taken_by}
+use Rattle.k_switching.specs.Switch.{first_taken_of, highest_filled, switch_step}
 use Rattle.k_switching.specs.Switch as steps
 use Rattle.k_stages.specs.Stages.{AreAlike, IsFrom, IsOwn, StagesAre}
 use Rattle.k_stages.proofs.Stages.{IsStep, begins_stage, ends_stage, stage_turns}
@@ -51,7 +54,9 @@ module _ (w : World) (d e : ℕ) (ne : e ≢ d) where
   taken_by v (Some p) = taken_of v p (v.lists p)
 
   before_others : (before_take w d).own e ≡ w.own e
-  before_others = upd_other (steps.start_entered (steps.goal_back (steps.ready_free w) d) d).own d _ e ne ∙ upd_other (steps.goal_back (steps.ready_free w) d).own d _ e ne ∙ upd_other w.own d _ e ne
+  before_others =
+      upd_other (steps.start_entered (steps.goal_back (steps.ready_free w) d) d).own d _ e ne
+      ∙ upd_other (steps.goal_back (steps.ready_free w) d).own d _ e ne ∙ upd_other w.own d _ e ne
 
   acquired_others : (runner : ℕ) (o : Option stage.ContextName) → (acquired_by w runner d o).own e ≡ w.own e
   acquired_others runner None = upd_other w.own d _ e ne
@@ -74,13 +79,18 @@ apart : (size d e : ℕ) → e ≢ d → size + e ≢ size + d
 apart size d e ne q = ne (omega (arith, q))
 
 module _ (b : Board) (w : World) (h : AreAlike b w) where
-  alike_by : (b' : Board) (v : World) (d : ℕ) (x : Context) → b'.size ≡ b.size → b'.context ≡ upd b.context (b.size + d) x → ((e : ℕ) → e ≢ d → v.own e ≡ w.own e) → IsStep b' v d (b.size + d) → AreAlike b' v
+  alike_by : (b' : Board) (v : World) (d : ℕ) (x : Context) → b'.size ≡ b.size → b'.context ≡ upd b.context (b.size + d) x →
+      ((e : ℕ) → e ≢ d → v.own e ≡ w.own e) → IsStep b' v d (b.size + d) → AreAlike b' v
   alike_by b' v d x z c o s = record {
     agrees = s.agrees;
     stages = λ e. elim (eqb_tells e d) [
-      | inl k ↦ subst (λ (n : ℕ). IsOwn (b'.context n).at (v.own e)) (λ u. sym z u + sym k.1 u) (subst (λ (n : ℕ). IsOwn (b'.context (b.size + d)).at (v.own n)) (sym k.1) s.own)
+      | inl k ↦
+          subst (λ (n : ℕ). IsOwn (b'.context n).at (v.own e)) (λ u. sym z u + sym k.1 u)
+          (subst (λ (n : ℕ). IsOwn (b'.context (b.size + d)).at (v.own n)) (sym k.1) s.own)
       | inr k ↦ subst (λ (n : ℕ). IsOwn (b'.context (n + e)).at (v.own e)) (sym z)
-          (subst (λ (y : Context). IsOwn y.at (v.own e)) (sym (ap (λ (f : ℕ → Context). f (b.size + e)) c ∙ upd_other b.context (b.size + d) x (b.size + e) (apart b.size d e k.1)))
+          (subst (λ (y : Context). IsOwn y.at (v.own e)) (sym
+          (ap (λ (f : ℕ → Context). f (b.size + e)) c ∙ upd_other b.context (b.size + d) x (b.size + e)
+          (apart b.size d e k.1)))
           (subst (λ (q : OwnContext). IsOwn (b.context (b.size + e)).at q) (sym (o e k.1)) (h.stages e)))
     ];
   }
@@ -88,22 +98,33 @@ module _ (b : Board) (w : World) (h : AreAlike b w) where
   own_at : (d : ℕ) (p : At) → (b.context (b.size + d)).at ≡ p → IsOwn p (w.own d)
   own_at d p at = subst (λ (q : At). IsOwn q (w.own d)) at (h.stages d)
 
-  pub stage_alike : (runner d : ℕ) (holder : ThreadId → Holder) → Parts w holder → (c : SwitchCall) (p : SwitchAt) (r : Response) → (b.context (b.size + d)).at ≡ InSwitch c p → is_going p ≡ true
-      → Answers b (switch.ask_of c p) r → AreAlike (switch_board b (b.size + d) (b.context (b.size + d)) c p r) (switch_step w runner d (w.own d).stage)
-  stage_alike runner d holder parts c p r at going an = alike_by _ _ d _ refl refl (λ e ne. stage_others w d e ne runner (w.own d).stage) (stage_turns b w d h.agrees runner holder parts c p r at (own_at d (InSwitch c p) at) going an)
+  pub stage_alike : (runner d : ℕ) (holder : ThreadId → Holder) → Parts w holder →
+      (c : SwitchCall) (p : SwitchAt) (r : Response) → (b.context (b.size + d)).at ≡ InSwitch c p → is_going p ≡ true
+      → Answers b (switch.ask_of c p) r → AreAlike (switch_board b (b.size + d) (b.context (b.size + d)) c p r)
+      (switch_step w runner d (w.own d).stage)
+  stage_alike runner d holder parts c p r at going an =
+      alike_by _ _ d _ refl refl (λ e ne. stage_others w d e ne runner (w.own d).stage)
+      (stage_turns b w d h.agrees runner holder parts c p r at (own_at d (InSwitch c p) at) going an)
 
-  pub begins_alike : (d : ℕ) (c : SwitchCall) → (b.context (b.size + d)).at ≡ Resting → IsFrom c (w.carrier d) (lowest (w.carrier d).starts 64)
-      → AreAlike (placed b (b.size + d) (record (b.context (b.size + d)) { at = InSwitch c switch.AcquireReady })) (begun_with w d (lowest (w.carrier d).starts 64))
+  pub begins_alike : (d : ℕ) (c : SwitchCall) → (b.context (b.size + d)).at ≡ Resting →
+      IsFrom c (w.carrier d) (lowest (w.carrier d).starts 64)
+      → AreAlike (placed b (b.size + d) (record (b.context (b.size + d)) { at = InSwitch c switch.AcquireReady }))
+      (begun_with w d (lowest (w.carrier d).starts 64))
   begins_alike d c at f = alike_by _ _ d _ refl refl (λ e ne. upd_other w.own d _ e ne) (begins_stage b w d h.agrees c at f)
 
   pub ends_alike : (d : ℕ) (c : SwitchCall) (s : Switched) → (b.context (b.size + d)).at ≡ InSwitch c (switch.Finished s)
       → AreAlike (placed b (b.size + d) (record (b.context (b.size + d)) { at = Resting })) (given w d (OfCarrier d))
-  ends_alike d c s at = alike_by _ _ d _ refl refl (λ e ne. given_others w d e ne (has_switched w d (OfCarrier d))) (ends_stage b w d h.agrees c s at (own_at d (InSwitch c (switch.Finished s)) at))
+  ends_alike d c s at =
+      alike_by _ _ d _ refl refl (λ e ne. given_others w d e ne (has_switched w d (OfCarrier d)))
+      (ends_stage b w d h.agrees c s at (own_at d (InSwitch c (switch.Finished s)) at))
 
-  pub wakes_alike : (c i : ℕ) → i < b.size → (b.context i).at ≡ Alone location.Asleep → AreAlike (placed b i (record (b.context i) { at = Alone location.LookAgain })) (taken_asleep w c i)
+  pub wakes_alike : (c i : ℕ) → i < b.size → (b.context i).at ≡ Alone location.Asleep →
+      AreAlike (placed b i (record (b.context i) { at = Alone location.LookAgain })) (taken_asleep w c i)
   wakes_alike c i low at = record {
     agrees = wakes_agree b w c i h.agrees at;
-    stages = λ d. subst (λ (y : Context). IsOwn y.at (w.own d)) (sym (upd_other b.context i _ (b.size + d) (λ q. absurd (omega (arith, low, q))))) (h.stages d);
+    stages =
+        λ d. subst (λ (y : Context). IsOwn y.at (w.own d)) (sym
+        (upd_other b.context i _ (b.size + d) (λ q. absurd (omega (arith, low, q))))) (h.stages d);
   }
 
 -- A THREAD'S TURN
@@ -115,13 +136,20 @@ module _ (g : Programs) (b : Board) (w : World) (c i : ℕ) (m : MayTurn g b w c
   free_low : (n : ℕ) → lowest_free b.numbers ≡ Some n → n < b.size
   free_low n e = subst (λ (k : ℕ). n < k) m.within.count (lowest-Some (is_free b.numbers) (length b.numbers.versions) n e).0
 
-  far_create : (s : CreateCall) (p : CreateAt) (r : Response) → AllSay g b i (b.context i) (facts_create s p) → (d : ℕ) → create_contexts g s p r b.context (b.size + d) ≡ b.context (b.size + d)
-  far_create s (create.Locked (create_locked.PlaceContext id)) asks.Placed h d = upd_other b.context id.number _ (b.size + d) (λ q. absurd (let l = free_low id.number h.1.1.1.1.1.0.1 in omega (arith, l, q)))
-  far_create s (create.Locked (create_locked.CommitCreate id)) asks.Won h d = upd_other b.context id.number _ (b.size + d) (λ q. absurd (let l = free_low id.number h.1.1.1.1.1.0.1 in omega (arith, l, q)))
+  far_create : (s : CreateCall) (p : CreateAt) (r : Response) → AllSay g b i (b.context i) (facts_create s p) → (d : ℕ) →
+      create_contexts g s p r b.context (b.size + d) ≡ b.context (b.size + d)
+  far_create s (create.Locked (create_locked.PlaceContext id)) asks.Placed h d =
+      upd_other b.context id.number _ (b.size + d) (λ q. absurd
+      (let l = free_low id.number h.1.1.1.1.1.0.1 in omega (arith, l, q)))
+  far_create s (create.Locked (create_locked.CommitCreate id)) asks.Won h d =
+      upd_other b.context id.number _ (b.size + d) (λ q. absurd
+      (let l = free_low id.number h.1.1.1.1.1.0.1 in omega (arith, l, q)))
   far_create s p r h d = refl
 
-  far_destroy : (s : DestroyCall) (p : DestroyAt) (r : Response) → s.who.number < b.size → (d : ℕ) → destroy_contexts s p r b.context (b.size + d) ≡ b.context (b.size + d)
-  far_destroy s (destroy.Locked destroy_locked.RemoveContext) asks.Removed l d = upd_other b.context s.who.number _ (b.size + d) (λ q. absurd (omega (arith, l, q)))
+  far_destroy : (s : DestroyCall) (p : DestroyAt) (r : Response) → s.who.number < b.size → (d : ℕ) →
+      destroy_contexts s p r b.context (b.size + d) ≡ b.context (b.size + d)
+  far_destroy s (destroy.Locked destroy_locked.RemoveContext) asks.Removed l d =
+      upd_other b.context s.who.number _ (b.size + d) (λ q. absurd (omega (arith, l, q)))
   far_destroy s p r l d = refl
 
   awake : (look_at (b.context i).at).condition ≡ stage.Awake
@@ -131,13 +159,20 @@ module _ (g : Programs) (b : Board) (w : World) (c i : ℕ) (m : MayTurn g b w c
   asleep p at n = n (ap (λ (q : At). (look_at q).condition) (sym at) ∙ awake)
 
   -- a thread's number is of the table
-  moves : (p : At) → (b.context i).at ≡ p → is_threads p ≡ true → (f : ℕ → Context) (x : Context) (d : ℕ) → f (b.size + d) ≡ b.context (b.size + d) → upd f i x (b.size + d) ≡ b.context (b.size + d)
-  moves p at e f x d k = upd_other f i x (b.size + d) (λ q. absurd (let l = (m.within.threads i (ap is_threads at ∙ e)).number in omega (arith, l, q))) ∙ k
+  moves : (p : At) → (b.context i).at ≡ p → is_threads p ≡ true → (f : ℕ → Context) (x : Context) (d : ℕ) →
+      f (b.size + d) ≡ b.context (b.size + d) → upd f i x (b.size + d) ≡ b.context (b.size + d)
+  moves p at e f x d k =
+      upd_other f i x (b.size + d) (λ q. absurd (let l = (m.within.threads i (ap is_threads at ∙ e)).number in
+      omega (arith, l, q))) ∙ k
 
   pub leaves : (b' : Board) → Turn g b i b' → (d : ℕ) → (b'.size ≡ b.size) × (b'.context (b.size + d) ≡ b.context (b.size + d))
   leaves _ (sends s p r at an) d = (refl, moves (InSend s p) at refl b.context _ d refl)
   leaves _ (receives s p r at an) d = (refl, moves (InReceive s p) at refl b.context _ d refl)
-  leaves _ (creates s p r at an) d = (refl, moves (InCreate s p) at refl (create_contexts g s p r b.context) _ d (far_create s p r (facts_at (InCreate s p) at) d))
+  leaves _ (creates s p r at an) d = (
+    refl,
+    moves (InCreate s p) at refl (create_contexts g s p r b.context) _ d
+        (far_create s p r (facts_at (InCreate s p) at) d),
+  )
   leaves _ (destroys s p r at an) d = (
     refl,
     moves (InDestroy s p) at refl (destroy_contexts s p r b.context) _ d
@@ -152,4 +187,6 @@ module _ (g : Programs) (b : Board) (w : World) (c i : ℕ) (m : MayTurn g b w c
   leaves _ (ends_switch s q at) d = absurd (asleep (InSwitch s (switch.Finished q)) at (λ z. cc))
 
   pub stages_stay : (b' : Board) → StagesAre b w → Turn g b i b' → StagesAre b' w
-  stages_stay b' h t d = subst (λ (n : ℕ). IsOwn (b'.context (n + d)).at (w.own d)) (sym (leaves b' t d).0) (subst (λ (y : Context). IsOwn y.at (w.own d)) (sym (leaves b' t d).1) (h d))
+  stages_stay b' h t d =
+      subst (λ (n : ℕ). IsOwn (b'.context (n + d)).at (w.own d)) (sym (leaves b' t d).0)
+      (subst (λ (y : Context). IsOwn y.at (w.own d)) (sym (leaves b' t d).1) (h d))

@@ -31,7 +31,8 @@ module _ (b : Board) (w : World) (c i : ℕ) (a : Agrees b w) (at : (b.context i
   woken : threads_by w.threads.priority (sights_of b) (upd l i q) b.table ≡ awakened (threads_of w.threads.priority b) i
   woken = threads_are refl refl refl refl refl
       (view_upd (λ (y : Look). y.condition) l i q)
-      (ap (λ (f : ℕ → Bool). λ t. made_by (f t) (sights_of b t).version) (view_stays (λ (y : Look). y.is_coming) l i q (was (λ y. y.is_coming))))
+      (ap (λ (f : ℕ → Bool). λ t. made_by (f t) (sights_of b t).version)
+      (view_stays (λ (y : Look). y.is_coming) l i q (was (λ y. y.is_coming))))
       (view_stays (λ (y : Look). y.locks) l i q (was (λ y. y.locks)))
       (view_stays (λ (y : Look). y.push) l i q (was (λ y. y.push)))
       refl
@@ -41,7 +42,9 @@ module _ (b : Board) (w : World) (c i : ℕ) (a : Agrees b w) (at : (b.context i
 
   pub wakes_agree : Agrees (placed b i x) (taken_asleep w c i)
   wakes_agree = record {
-    threads = ap (λ (t : Threads). awakened t i) a.threads ∙ sym woken ∙ ap (λ (f : ℕ → Look). threads_by w.threads.priority (sights_of b) f b.table) (sym looks);
+    threads =
+        ap (λ (t : Threads). awakened t i) a.threads ∙ sym woken
+        ∙ ap (λ (f : ℕ → Look). threads_by w.threads.priority (sights_of b) f b.table) (sym looks);
     priorities = a.priorities;
     ready = a.ready;
     lists = a.lists;

@@ -60,7 +60,8 @@ never_waits me own location.Asleep h = h
 never_waits me own location.Ended h = h
 never_waits me own location.Dead h = h
 
-module _ (script : Script) (m : Memory) (b : Board) (c i : ℕ) (p : ThreadLocation) (d : ℕ) (k : HandSeen) (sh : Shows script m b) (locks : LocksHold b.owner b.table b.ready b.context) (was : m.hand c ≡ Some k) (mine : k.context ≡ i) where
+module _ (script : Script) (m : Memory) (b : Board) (c i : ℕ) (p : ThreadLocation) (d : ℕ) (k : HandSeen) (sh : Shows script m b)
+    (locks : LocksHold b.owner b.table b.ready b.context) (was : m.hand c ≡ Some k) (mine : k.context ≡ i) where
   abbrev X : Context
   X = b.context i
 
@@ -82,16 +83,28 @@ module _ (script : Script) (m : Memory) (b : Board) (c i : ℕ) (p : ThreadLocat
   abbrev Then : Bool → ThreadSeen
   Then q = if q then threads.asked T else threads.moved (threads.asked T) An
 
-  pub alone_steps : IsAskFit m b A → X.at ≡ Alone p → can_ask p ≡ true → version_held k ≡ (b.seen i).word.version → Comes script (programs_of script) i 1 b (section_maps script m c i (Thread T))
-  alone_steps fit at can held = record { board = After; turns = more b After After (goes_alone p R at can an) (none After); shows = by (is_again An) refl }
+  pub alone_steps : IsAskFit m b A → X.at ≡ Alone p → can_ask p ≡ true → version_held k ≡ (b.seen i).word.version →
+      Comes script (programs_of script) i 1 b (section_maps script m c i (Thread T))
+  alone_steps fit at can held = record {
+    board = After;
+    turns = more b After After (goes_alone p R at can an) (none After);
+    shows = by (is_again An) refl;
+  }
     where
       an : Answers b A R
       an = step_finds m b A nothing (goods_found m (step_for A nothing)) sh.seen sh.owners fit
 
-      by : (q : Bool) → is_again An ≡ q → Shows script (moved_maps script m c i (Section (step_for A nothing)) (Some (record { context = i; value = Thread (Then q) })) (entry_in m.serial (points (id_at b i) p R))) After
+      by : (q : Bool) → is_again An ≡ q → Shows script (moved_maps script m c i (Section (step_for A nothing))
+          (Some (record { context = i; value = Thread (Then q) })) (entry_in m.serial (points (id_at b i) p R))) After
       by true e = absurd (never_waits (id_at b i) X.own p (again_asks b A R an (sym (again_heard A An) ∙ e)))
-      by false e = thread_steps script m b After c i A nothing (goods_found m (step_for A nothing)) k (programs_of script) sh locks was mine fit (Then false) (id_at b i) (Alone (leads p R)) (own_of X.own p R) (points (id_at b i) p R) (points (id_at b i) p R) (usual (id_at b i) X.own p) held refl (eq-eqb (b.seen i).word.version (b.seen i).word.version refl) refl refl refl
-          (subst (λ (z : At). Goes b After A (locks_at z) (activity.Alone (leads p R)) (own_of X.own p R) (Alone (leads p R)) (own_of X.own p R) nothing (points (id_at b i) p R) (points (id_at b i) p R) (KeepsVersion A)) (sym at) (alone_goes (programs_of script) b i X p R can an))
+      by false e =
+          thread_steps script m b After c i A nothing (goods_found m (step_for A nothing)) k
+          (programs_of script) sh locks was mine fit (Then false) (id_at b i) (Alone (leads p R)) (own_of X.own p R)
+          (points (id_at b i) p R) (points (id_at b i) p R) (usual (id_at b i) X.own p) held refl
+          (eq-eqb (b.seen i).word.version (b.seen i).word.version refl) refl refl refl
+          (subst (λ (z : At). Goes b After A (locks_at z) (activity.Alone (leads p R)) (own_of X.own p R) (Alone (leads p R))
+          (own_of X.own p R) nothing (points (id_at b i) p R) (points (id_at b i) p R) (KeepsVersion A)) (sym at)
+          (alone_goes (programs_of script) b i X p R can an))
           (record { size = refl; seen = refl; owns = owns_same; context = refl })
         where
           owns_same : Owns b After i A R

@@ -47,7 +47,8 @@ begun_own size me own (phase.Create program priority) = refl
 begun_own size me own (phase.Destroy who) = refl
 begun_own size me own phase.End = refl
 
-begun_hand : (b : Board) (size : ℕ) (me : ThreadId) (own : StateWord) (f : Phase) → hand_in (begun_by size me own f) ≡ held_on b (locks_at (begun_at size me f))
+begun_hand : (b : Board) (size : ℕ) (me : ThreadId) (own : StateWord) (f : Phase) →
+    hand_in (begun_by size me own f) ≡ held_on b (locks_at (begun_at size me f))
 begun_hand b size me own (phase.Send to message zero joined) = refl
 begun_hand b size me own (phase.Reply to message zero) = refl
 begun_hand b size me own (phase.Receive from zero) = refl
@@ -55,7 +56,8 @@ begun_hand b size me own (phase.Create program priority) = refl
 begun_hand b size me own (phase.Destroy who) = refl
 begun_hand b size me own phase.End = refl
 
-begun_locks : (size : ℕ) (me : ThreadId) (f : Phase) (p : At) → p ≡ Alone (location.Between None) → locks_at (begun_at size me f) ≡ locks_at p
+begun_locks : (size : ℕ) (me : ThreadId) (f : Phase) (p : At) → p ≡ Alone (location.Between None) →
+    locks_at (begun_at size me f) ≡ locks_at p
 begun_locks size me (phase.Send to message zero joined) p e = ap locks_at (sym e)
 begun_locks size me (phase.Reply to message zero) p e = ap locks_at (sym e)
 begun_locks size me (phase.Receive from zero) p e = ap locks_at (sym e)
@@ -80,13 +82,21 @@ pub record IsBegun (script : Script) (b : Board) (i : ℕ) (m : Memory) (p : At)
   pub locks : LocksHold board.owner board.table board.ready board.context
   pub stands : (board.context i).at ≡ p
 
-module _ (script : Script) (m : Memory) (b : Board) (c i : ℕ) (last : Option Reply) (d : ℕ) (k : HandSeen) (sh : Shows script m b) (locks : LocksHold b.owner b.table b.ready b.context) (was : m.hand c ≡ Some k) (mine : k.context ≡ i) where
+module _ (script : Script) (m : Memory) (b : Board) (c i : ℕ) (last : Option Reply) (d : ℕ) (k : HandSeen) (sh : Shows script m b)
+    (locks : LocksHold b.owner b.table b.ready b.context) (was : m.hand c ≡ Some k) (mine : k.context ≡ i) where
   abbrev X : Context
   X = b.context i
 
   -- between two calls, what comes next taken from its program
   abbrev T : ThreadSeen
-  T = record { id = id_at b i; position = went_on X.position last; own = X.own; serial = X.serial; done = d; activity = activity.Alone (location.Between last) }
+  T = record {
+    id = id_at b i;
+    position = went_on X.position last;
+    own = X.own;
+    serial = X.serial;
+    done = d;
+    activity = activity.Alone (location.Between last);
+  }
 
   abbrev Called : Phase → Context
   Called f = begun (programs_of script) X last (begun_at b.size (id_at b i) f)
@@ -97,20 +107,38 @@ module _ (script : Script) (m : Memory) (b : Board) (c i : ℕ) (last : Option R
   abbrev Maps : Next → Memory
   Maps n = with_hand m c (Some (record { context = i; value = Thread (begun_next script.table T n) }))
 
-  pub begins_shown : (n : Next) → next_of script.version X.position last ≡ n → X.at ≡ Alone (location.Between last) → X.serial < 2 ^ 32 - 1 → version_held k ≡ (b.seen i).word.version → IsBegun script b i (Maps n) (next_at b.size (id_at b i) n)
-  begins_shown (next.Phase f) e at small held = record { board = placed b i (Called f); turn = begins last f at e; shows = shows; locks = locks_placed b i (Called f) locks same_locks; stands = ap (λ (z : Context). z.at) (upd_same b.context i (Called f)) }
+  pub begins_shown : (n : Next) → next_of script.version X.position last ≡ n → X.at ≡ Alone (location.Between last) →
+      X.serial < 2 ^ 32 - 1 → version_held k ≡ (b.seen i).word.version →
+      IsBegun script b i (Maps n) (next_at b.size (id_at b i) n)
+  begins_shown (next.Phase f) e at small held = record {
+    board = placed b i (Called f);
+    turn = begins last f at e;
+    shows = shows;
+    locks = locks_placed b i (Called f) locks same_locks;
+    stands = ap (λ (z : Context). z.at) (upd_same b.context i (Called f));
+  }
     where
       shows : Shows script (Maps (next.Phase f)) (placed b i (Called f))
       shows = held_shown script m b c i k _ (Called f) sh was mine (sym held)
-          (shown_then (b.seen i).word i (Called f) _ X.own (begun_at b.size (id_at b i) f) refl (eq-eqb (b.seen i).word.version (b.seen i).word.version refl) (counted X.serial small) refl
-          (begun_stands script.table (id_at b i) X.own f ∙ ap (λ z. begun_at z (id_at b i) f) (sym sh.size)) (begun_own script.table (id_at b i) X.own f))
-          (begun_hand b script.table (id_at b i) X.own f ∙ ap (λ z. held_on b (locks_at (begun_at z (id_at b i) f))) (sym sh.size))
+          (shown_then (b.seen i).word i (Called f) _ X.own (begun_at b.size (id_at b i) f) refl
+          (eq-eqb (b.seen i).word.version (b.seen i).word.version refl) (counted X.serial small) refl
+          (begun_stands script.table (id_at b i) X.own f ∙ ap (λ z. begun_at z (id_at b i) f) (sym sh.size))
+          (begun_own script.table (id_at b i) X.own f))
+          (begun_hand b script.table (id_at b i) X.own f ∙ ap (λ z. held_on b (locks_at (begun_at z (id_at b i) f)))
+          (sym sh.size))
 
       same_locks : locks_at (begun_at b.size (id_at b i) f) ≡ locks_at X.at
       same_locks = begun_locks b.size (id_at b i) f (Alone (location.Between None)) refl ∙ ap locks_at (sym at)
-  begins_shown (next.Work count) e at small held = record { board = placed b i (Works count); turn = turns_to_work last count at e; shows = shows; locks = locks_placed b i (Works count) locks (ap locks_at (sym at)); stands = ap (λ (z : Context). z.at) (upd_same b.context i (Works count)) }
+  begins_shown (next.Work count) e at small held = record {
+    board = placed b i (Works count);
+    turn = turns_to_work last count at e;
+    shows = shows;
+    locks = locks_placed b i (Works count) locks (ap locks_at (sym at));
+    stands = ap (λ (z : Context). z.at) (upd_same b.context i (Works count));
+  }
     where
       shows : Shows script (Maps (next.Work count)) (placed b i (Works count))
       shows = held_shown script m b c i k _ (Works count) sh was mine (sym held)
-          (shown_then (b.seen i).word i (Works count) _ X.own (Alone (location.Work count)) refl (eq-eqb (b.seen i).word.version (b.seen i).word.version refl) refl refl refl refl)
+          (shown_then (b.seen i).word i (Works count) _ X.own (Alone (location.Work count)) refl
+          (eq-eqb (b.seen i).word.version (b.seen i).word.version refl) refl refl refl refl)
           refl

@@ -20,7 +20,9 @@ use Rattle.k_threads.specs.declared.create.CreateLocation.TheVariants as locatio
 use Rattle.k_threads.specs.declared.create.CreateOutside.TheVariants as outside
 use Rattle.k_threads.specs.declared.create.CreateLocked.TheVariants as locked
 use Rattle.k_threads.specs.declared.create.CreateSection.{CreateSection}
-use Rattle.k_threads.specs.CreateTable.{CreateAt, Outside, Locked, PushCreated, ask_of, asked, asked_location, at_of, can_ask, hand_after, hand_of, is_open, leads, location_with, locks_of, moved, own_of, points, pushed_at, went_at}
+use Rattle.k_threads.specs.CreateTable.{CreateAt, Outside, Locked, PushCreated, ask_of, asked, asked_location}
+use Rattle.k_threads.specs.CreateTable.{at_of, can_ask, hand_after, hand_of, is_open, leads}
+use Rattle.k_threads.specs.CreateTable.{location_with, locks_of, moved, own_of, points, pushed_at, went_at}
 use Rattle.k_caller.specs.declared.activity.Activity.{Activity}
 use Rattle.k_caller.specs.declared.activity.Activity.TheVariants as activity
 use Rattle.k_caller.specs.Activities.{activity_after, after_went, own_after}
@@ -63,7 +65,8 @@ open_at (location.NumbersReturned r) e = absurd cc
 
 -- once it was asked for its step it stands at the same location, without what goes home
 abbrev pub IsAsked : CreateCall → StateWord → CreateLocation → Type 0
-IsAsked c own l = (at_of (asked_location l) ≡ at_of l) × (hand_of (asked_location l) ≡ hand_asked (ask_of c own (at_of l)) (hand_of l))
+IsAsked c own l =
+    (at_of (asked_location l) ≡ at_of l) × (hand_of (asked_location l) ≡ hand_asked (ask_of c own (at_of l)) (hand_of l))
 
 is_asked : (c : CreateCall) (own : StateWord) (l : CreateLocation) → IsAsked c own l
 is_asked c own (location.Outside outside.AcquireTable) = (refl, refl)
@@ -106,7 +109,8 @@ same_version c own (Locked (locked.AcquireReady id)) h = tt
 same_version c own (Locked (locked.Release r)) h = tt
 same_version c own (PushCreated id) h = tt
 
-same_contexts : (g : Programs) (c : CreateCall) (p : CreateAt) (r : Response) (s : ℕ → Context) → IsPlain p → create_contexts g c p r s ≡ s
+same_contexts : (g : Programs) (c : CreateCall) (p : CreateAt) (r : Response) (s : ℕ → Context) → IsPlain p →
+    create_contexts g c p r s ≡ s
 same_contexts g c (Outside p) r s h = refl
 same_contexts g c (Locked locked.LoadCaller) r s h = refl
 same_contexts g c (Locked (locked.PlaceContext id)) r s h = absurd h
@@ -117,9 +121,14 @@ same_contexts g c (PushCreated id) r s h = refl
 
 -- how the activity goes on, by what was asked for
 abbrev Made : CreateCall → StateWord → ℕ → CreateAt → Hand → Hand → Response → Activity
-Made c own d p h came r = after_went c.caller (own_of c own p r) (activity.Create (record { call = c; own = own_of c own p r; location = location_with came (leads c h p r); done = d })) (went_at (pushed_at c p) (leads c h p r))
+Made c own d p h came r =
+    after_went c.caller (own_of c own p r) (activity.Create
+    (record { call = c; own = own_of c own p r; location = location_with came (leads c h p r); done = d }))
+    (went_at (pushed_at c p) (leads c h p r))
 
-module _ (script : Script) (m : Memory) (b : Board) (c i : ℕ) (call : CreateCall) (l : CreateLocation) (n d : ℕ) (own : StateWord) (k : HandSeen) (sh : Shows script m b) (locks : LocksHold b.owner b.table b.ready b.context) (was : m.hand c ≡ Some k) (mine : k.context ≡ i) where
+module _ (script : Script) (m : Memory) (b : Board) (c i : ℕ) (call : CreateCall) (l : CreateLocation) (n d : ℕ) (own : StateWord)
+    (k : HandSeen) (sh : Shows script m b) (locks : LocksHold b.owner b.table b.ready b.context) (was : m.hand c ≡ Some k)
+    (mine : k.context ≡ i) where
   abbrev pub X : Context
   X = b.context i
 
@@ -151,9 +160,12 @@ module _ (script : Script) (m : Memory) (b : Board) (c i : ℕ) (call : CreateCa
   After = create_board (programs_of script) b i X call P R
 
   abbrev pub GoesSo : Activity → StateWord → Option Point → Type 0
-  GoesSo doing word raw = Goes b After A (locks_of call P) doing word (create_at call (leads call On P R)) (own_of call X.own P R) (hand_after call (trimmed (locks_of call P) On) P asks.Released) raw (points call (b.seen i).word On P R) (Unit {0})
+  GoesSo doing word raw =
+      Goes b After A (locks_of call P) doing word (create_at call (leads call On P R)) (own_of call X.own P R)
+      (hand_after call (trimmed (locks_of call P) On) P asks.Released) raw (points call (b.seen i).word On P R) (Unit {0})
 
-  module _ (fit : IsAskFit m b A) (at : X.at ≡ InCreate call P) (can : can_ask l ≡ true) (hand : hand_of l ≡ trimmed (locks_of call P) On) (na : is_again An ≡ false) where
+  module _ (fit : IsAskFit m b A) (at : X.at ≡ InCreate call P) (can : can_ask l ≡ true)
+      (hand : hand_of l ≡ trimmed (locks_of call P) On) (na : is_again An ≡ false) where
     abbrev L0 : CreateLocation
     L0 = asked_location l
 
@@ -162,44 +174,93 @@ module _ (script : Script) (m : Memory) (b : Board) (c i : ℕ) (call : CreateCa
 
     -- what it is about then
     abbrev Raw : Bool → Bool → Activity
-    Raw q q' = let s1 = if q then asked S else moved (asked S) An in after_went call.caller s1.own (activity.Create s1) (if q' then went.Again else went_at (pushed_at call (at_of L0)) (leads call (hand_of L0) (at_of L0) (response_of An (ask_of call X.own (at_of L0)))))
+    Raw q q' =
+        let s1 = if q then asked S else moved (asked S) An in
+        after_went call.caller s1.own (activity.Create s1) (if q' then went.Again else went_at (pushed_at call (at_of L0))
+        (leads call (hand_of L0) (at_of L0) (response_of An (ask_of call X.own (at_of L0)))))
 
     na' : asks.is_again (response_of An (ask_of call X.own (at_of L0))) ≡ false
     na' = sym (again_heard (ask_of call X.own (at_of L0)) An) ∙ na
 
-    doing_is : activity_after call.caller own (activity.Create (asked S)) An ≡ Made call X.own (one_more n) P (hand_asked A (trimmed (locks_of call P) On)) (hand_came R (goods_asked A b) (hand_after call (hand_asked A (trimmed (locks_of call P) On)) P R)) R
+    doing_is : activity_after call.caller own (activity.Create (asked S)) An ≡
+        Made call X.own (one_more n) P (hand_asked A (trimmed (locks_of call P) On))
+        (hand_came R (goods_asked A b) (hand_after call (hand_asked A (trimmed (locks_of call P) On)) P R)) R
     doing_is = (λ e. Raw (na e) (na' e))
-        ∙ (λ e. Made call X.own (one_more n) (asked_at l call X.own e) (left_is e) (hand_with An (hand_after call (left_is e) (asked_at l call X.own e) (response_of An (ask_of call X.own (asked_at l call X.own e))))) (response_of An (ask_of call X.own (asked_at l call X.own e))))
-        ∙ ap (λ z. Made call X.own (one_more n) P (hand_asked A (trimmed (locks_of call P) On)) z R) (came_is m b sh.owners sh.goods.homes A Goes_home (hand_after call (hand_asked A (trimmed (locks_of call P) On)) P R) fit)
+        ∙ (λ e. Made call X.own (one_more n) (asked_at l call X.own e) (left_is e)
+        (hand_with An (hand_after call (left_is e) (asked_at l call X.own e)
+        (response_of An (ask_of call X.own (asked_at l call X.own e)))))
+        (response_of An (ask_of call X.own (asked_at l call X.own e))))
+        ∙ ap (λ z. Made call X.own (one_more n) P (hand_asked A (trimmed (locks_of call P) On)) z R)
+        (came_is m b sh.owners sh.goods.homes A Goes_home (hand_after call (hand_asked A (trimmed (locks_of call P) On)) P R) fit)
 
     own_is : own_after call.caller own (activity.Create (asked S)) An ≡ own_of call X.own P R
-    own_is = (λ e. (if na e then asked S else moved (asked S) An).own) ∙ (λ e. own_of call X.own (asked_at l call X.own e) (response_of An (ask_of call X.own (asked_at l call X.own e))))
+    own_is =
+        (λ e. (if na e then asked S else moved (asked S) An).own)
+        ∙ (λ e. own_of call X.own (asked_at l call X.own e) (response_of An (ask_of call X.own (asked_at l call X.own e))))
 
-    point_is : points call (state_word_of (m.state i)) (hand_of L0) (at_of L0) (response_of An (ask_of call X.own (at_of L0))) ≡ points call (b.seen i).word (hand_asked A (trimmed (locks_of call P) On)) P R
-    point_is = λ e. points call (sym (sh.seen i).word e) (left_is e) (asked_at l call X.own e) (response_of An (ask_of call X.own (asked_at l call X.own e)))
+    point_is : points call (state_word_of (m.state i)) (hand_of L0) (at_of L0) (response_of An (ask_of call X.own (at_of L0))) ≡
+        points call (b.seen i).word (hand_asked A (trimmed (locks_of call P) On)) P R
+    point_is =
+        λ e. points call (sym (sh.seen i).word e) (left_is e) (asked_at l call X.own e)
+        (response_of An (ask_of call X.own (asked_at l call X.own e)))
 
-    pub goes_on : GoesSo (activity_after call.caller own (activity.Create (asked S)) An) (own_after call.caller own (activity.Create (asked S)) An) (points call (state_word_of (m.state i)) (hand_of L0) (at_of L0) (response_of An (ask_of call X.own (at_of L0))))
+    pub goes_on : GoesSo (activity_after call.caller own (activity.Create (asked S)) An)
+        (own_after call.caller own (activity.Create (asked S)) An)
+        (points call (state_word_of (m.state i)) (hand_of L0) (at_of L0) (response_of An (ask_of call X.own (at_of L0))))
     goes_on =
         let an = step_finds m b A Goes_home (goods_found m (step_for A Goes_home)) sh.seen sh.owners fit in
-        let base = create_goes (programs_of script) b i X call (b.seen i).word (one_more n) P R (open_at l can) an (sym (again_heard A An) ∙ na) in
-        subst (λ (z : Activity). GoesSo z (own_after call.caller own (activity.Create (asked S)) An) (points call (state_word_of (m.state i)) (hand_of L0) (at_of L0) (response_of An (ask_of call X.own (at_of L0))))) (sym doing_is)
-        (subst (λ (z : StateWord). GoesSo (Made call X.own (one_more n) P (hand_asked A (trimmed (locks_of call P) On)) (hand_came R (goods_asked A b) (hand_after call (hand_asked A (trimmed (locks_of call P) On)) P R)) R) z (points call (state_word_of (m.state i)) (hand_of L0) (at_of L0) (response_of An (ask_of call X.own (at_of L0))))) (sym own_is)
-        (subst (GoesSo (Made call X.own (one_more n) P (hand_asked A (trimmed (locks_of call P) On)) (hand_came R (goods_asked A b) (hand_after call (hand_asked A (trimmed (locks_of call P) On)) P R)) R) (own_of call X.own P R)) (sym point_is) base))
+        let base = create_goes (programs_of script) b i X call (b.seen i).word (one_more n) P R (open_at l can) an
+        (sym (again_heard A An) ∙ na) in
+        subst (λ (z : Activity). GoesSo z (own_after call.caller own (activity.Create (asked S)) An)
+        (points call (state_word_of (m.state i)) (hand_of L0) (at_of L0) (response_of An (ask_of call X.own (at_of L0)))))
+        (sym doing_is)
+        (subst (λ (z : StateWord). GoesSo (Made call X.own (one_more n) P (hand_asked A (trimmed (locks_of call P) On))
+        (hand_came R (goods_asked A b) (hand_after call (hand_asked A (trimmed (locks_of call P) On)) P R)) R) z
+        (points call (state_word_of (m.state i)) (hand_of L0) (at_of L0) (response_of An (ask_of call X.own (at_of L0)))))
+        (sym own_is)
+        (subst (GoesSo (Made call X.own (one_more n) P (hand_asked A (trimmed (locks_of call P) On))
+        (hand_came R (goods_asked A b) (hand_after call (hand_asked A (trimmed (locks_of call P) On)) P R)) R)
+        (own_of call X.own P R)) (sym point_is) base))
 
   -- where the same step comes again, all is as it was
-  waits_on : (q : CreateLocation) (r : Response) (raw : Option Point) → Answers b (ask_of call X.own (at_of q)) r → asks.is_again r ≡ true → can_ask q ≡ true → hand_of q ≡ trimmed (locks_of call (at_of q)) On → raw ≡ None → Goes b (create_board (programs_of script) b i X call (at_of q) r) (ask_of call X.own (at_of q)) (locks_of call (at_of q)) (activity.Create (record { call = call; own = X.own; location = asked_location q; done = n })) own (create_at call (leads call On (at_of q) r)) (own_of call X.own (at_of q) r) (hand_after call (trimmed (locks_of call (at_of q)) On) (at_of q) asks.Released) raw (points call (b.seen i).word On (at_of q) r) (Unit {0})
-  waits_on (location.Outside outside.AcquireTable) (asks.Owned o) raw an ag can hand e = record { at = refl; own_word = refl; hand = hand; others = λ z h. refl; returned = tt; point = e; fits = tt; version = tt }
+  waits_on : (q : CreateLocation) (r : Response) (raw : Option Point) → Answers b (ask_of call X.own (at_of q)) r →
+      asks.is_again r ≡ true → can_ask q ≡ true → hand_of q ≡ trimmed (locks_of call (at_of q)) On → raw ≡ None →
+      Goes b (create_board (programs_of script) b i X call (at_of q) r) (ask_of call X.own (at_of q)) (locks_of call (at_of q))
+      (activity.Create (record { call = call; own = X.own; location = asked_location q; done = n })) own
+      (create_at call (leads call On (at_of q) r)) (own_of call X.own (at_of q) r)
+      (hand_after call (trimmed (locks_of call (at_of q)) On) (at_of q) asks.Released) raw
+      (points call (b.seen i).word On (at_of q) r) (Unit {0})
+  waits_on (location.Outside outside.AcquireTable) (asks.Owned o) raw an ag can hand e = record {
+    at = refl;
+    own_word = refl;
+    hand = hand;
+    others = λ z h. refl;
+    returned = tt;
+    point = e;
+    fits = tt;
+    version = tt;
+  }
   waits_on (location.Outside outside.AcquireTable) asks.Got raw an ag can hand e = absurd cc
   waits_on (location.Outside outside.AcquireTable) r raw an ag can hand e = absurd an
   waits_on (location.Outside (outside.Ended w)) r raw an ag can hand e = absurd cc
-  waits_on (location.Locked (locked.AcquireReady id) numbers) (asks.Owned o) raw an ag can hand e = record { at = refl; own_word = refl; hand = hand; others = λ z h. refl; returned = tt; point = e; fits = tt; version = tt }
+  waits_on (location.Locked (locked.AcquireReady id) numbers) (asks.Owned o) raw an ag can hand e = record {
+    at = refl;
+    own_word = refl;
+    hand = hand;
+    others = λ z h. refl;
+    returned = tt;
+    point = e;
+    fits = tt;
+    version = tt;
+  }
   waits_on (location.Locked (locked.AcquireReady id) numbers) asks.Got raw an ag can hand e = absurd cc
   waits_on (location.Locked (locked.AcquireReady id) numbers) r raw an ag can hand e = absurd an
   waits_on (location.ListsReturned id numbers) r raw an ag can hand e = absurd cc
   waits_on (location.NumbersReturned q) r raw an ag can hand e = absurd cc
   waits_on q r raw an ag can hand e = absurd (again_asks b (ask_of call X.own (at_of q)) r an ag)
 
-  no_point : (w : StateWord) (h : Hand) (p : CreateAt) (r : Response) → Answers b (ask_of call X.own p) r → asks.is_again r ≡ true → points call w h p r ≡ None
+  no_point : (w : StateWord) (h : Hand) (p : CreateAt) (r : Response) → Answers b (ask_of call X.own p) r →
+      asks.is_again r ≡ true → points call w h p r ≡ None
   no_point w h (Outside outside.AcquireTable) r an ag = refl
   no_point w h (Locked (locked.AcquireReady id)) r an ag = refl
   no_point w h p r an ag = absurd (again_asks b (ask_of call X.own p) r an ag)
@@ -209,10 +270,19 @@ module _ (script : Script) (m : Memory) (b : Board) (c i : ℕ) (call : CreateCa
   Then q = if q then threads.asked T else threads.moved (threads.asked T) An
 
   abbrev pub Raw_point : Option Point
-  Raw_point = points call (state_word_of (m.state i)) (hand_of (asked_location l)) (at_of (asked_location l)) (response_of An (ask_of call X.own (at_of (asked_location l))))
+  Raw_point =
+      points call (state_word_of (m.state i)) (hand_of (asked_location l)) (at_of (asked_location l))
+      (response_of An (ask_of call X.own (at_of (asked_location l))))
 
-  pub create_steps : IsPlain P → IsAskFit m b A → X.at ≡ InCreate call P → can_ask l ≡ true → hand_of l ≡ held_on b (locks_at X.at) → version_held k ≡ call.caller.version → call.caller.number ≡ i → ((b.seen i).word.version == call.caller.version) ≡ true → Comes script (programs_of script) i 1 b (section_maps script m c i (Thread T))
-  create_steps pl fit at can hand held num ver = record { board = After; turns = more b After After (creates call P R at an) (none After); shows = by (is_again An) refl }
+  pub create_steps : IsPlain P → IsAskFit m b A → X.at ≡ InCreate call P → can_ask l ≡ true →
+      hand_of l ≡ held_on b (locks_at X.at) → version_held k ≡ call.caller.version → call.caller.number ≡ i →
+      ((b.seen i).word.version == call.caller.version) ≡ true →
+      Comes script (programs_of script) i 1 b (section_maps script m c i (Thread T))
+  create_steps pl fit at can hand held num ver = record {
+    board = After;
+    turns = more b After After (creates call P R at an) (none After);
+    shows = by (is_again An) refl;
+  }
     where
       an : Answers b A R
       an = step_finds m b A Goes_home (goods_found m (step_for A Goes_home)) sh.seen sh.owners fit
@@ -221,16 +291,34 @@ module _ (script : Script) (m : Memory) (b : Board) (c i : ℕ) (call : CreateCa
       in_hand = hand ∙ ap (λ p. held_on b (locks_at p)) at ∙ held_is b call P
 
       -- by whether the same step comes again
-      shown : (t : ThreadSeen) → t.id ≡ call.caller → t.serial ≡ X.serial → t.position ≡ X.position → GoesSo t.activity t.own Raw_point → Shows script (moved_maps script m c i (Section (step_for A Goes_home)) (Some (record { context = i; value = Thread t })) (entry_in m.serial Raw_point)) After
-      shown t is se po go = thread_steps script m b After c i A Goes_home (goods_found m (step_for A Goes_home)) k (programs_of script) sh locks was mine fit t call.caller (create_at call (leads call On P R)) (own_of call X.own P R) Raw_point (points call (b.seen i).word On P R) (usual call X.own P pl) held num ver is se po
+      shown : (t : ThreadSeen) → t.id ≡ call.caller → t.serial ≡ X.serial → t.position ≡ X.position →
+          GoesSo t.activity t.own Raw_point → Shows script (moved_maps script m c i (Section (step_for A Goes_home))
+          (Some (record { context = i; value = Thread t })) (entry_in m.serial Raw_point)) After
+      shown t is se po go =
+          thread_steps script m b After c i A Goes_home (goods_found m (step_for A Goes_home)) k
+          (programs_of script) sh locks was mine fit t call.caller (create_at call (leads call On P R))
+          (own_of call X.own P R) Raw_point (points call (b.seen i).word On P R) (usual call X.own P pl) held num ver is se po
           (versioned (KeepsVersion A) (same_version call X.own P pl)
-          (subst (λ (z : At). Goes b After A (locks_at z) t.activity t.own (create_at call (leads call On P R)) (own_of call X.own P R) Goes_home Raw_point (points call (b.seen i).word On P R) (Unit {0})) (sym at)
-          (subst (λ (z : Hand). Goes b After A (locks_of call P) t.activity t.own (create_at call (leads call On P R)) (own_of call X.own P R) (hand_after call z P asks.Released) Raw_point (points call (b.seen i).word On P R) (Unit {0})) (sym in_hand) go)))
-          (record { size = refl; seen = refl; owns = (refl, refl, refl); context = ap (λ (z : ℕ → Context). upd z i (context_then X X.own (create_at call (leads call On P R)))) (same_contexts (programs_of script) call P R b.context pl) })
+          (subst (λ (z : At). Goes b After A (locks_at z) t.activity t.own (create_at call (leads call On P R))
+          (own_of call X.own P R) Goes_home Raw_point (points call (b.seen i).word On P R) (Unit {0})) (sym at)
+          (subst (λ (z : Hand). Goes b After A (locks_of call P) t.activity t.own (create_at call (leads call On P R))
+          (own_of call X.own P R) (hand_after call z P asks.Released) Raw_point (points call (b.seen i).word On P R)
+          (Unit {0})) (sym in_hand) go)))
+          (record {
+            size = refl;
+            seen = refl;
+            owns = (refl, refl, refl);
+            context = ap (λ (z : ℕ → Context). upd z i (context_then X X.own (create_at call (leads call On P R))))
+                (same_contexts (programs_of script) call P R b.context pl);
+          })
 
-      by : (q : Bool) → is_again An ≡ q → Shows script (moved_maps script m c i (Section (step_for A Goes_home)) (Some (record { context = i; value = Thread (Then q) })) (entry_in m.serial Raw_point)) After
+      by : (q : Bool) → is_again An ≡ q → Shows script (moved_maps script m c i (Section (step_for A Goes_home))
+          (Some (record { context = i; value = Thread (Then q) })) (entry_in m.serial Raw_point)) After
       by true e =
           let ag : asks.is_again R ≡ true = sym (again_heard A An) ∙ e in
-          let back : Raw_point ≡ points call (state_word_of (m.state i)) (hand_of (asked_location l)) P R = λ d. points call (state_word_of (m.state i)) (hand_of (asked_location l)) (asked_at l call X.own d) (response_of An (ask_of call X.own (asked_at l call X.own d))) in
-          shown (Then true) refl refl refl (waits_on l R Raw_point an ag can in_hand (back ∙ no_point (state_word_of (m.state i)) (hand_of (asked_location l)) P R an ag))
+          let back : Raw_point ≡ points call (state_word_of (m.state i)) (hand_of (asked_location l)) P R =
+          λ d. points call (state_word_of (m.state i)) (hand_of (asked_location l)) (asked_at l call X.own d)
+          (response_of An (ask_of call X.own (asked_at l call X.own d))) in
+          shown (Then true) refl refl refl (waits_on l R Raw_point an ag can in_hand
+          (back ∙ no_point (state_word_of (m.state i)) (hand_of (asked_location l)) P R an ag))
       by false e = shown (Then false) refl refl refl (goes_on fit at can in_hand e)

@@ -16,7 +16,8 @@ use Rattle.k_threads.specs.declared.create.CreateOutside.TheVariants as outside
 use Rattle.k_threads.specs.declared.create.CreateLocked.TheVariants as locked
 use Rattle.k_threads.specs.declared.create.CreateRelease.TheVariants as release
 use Rattle.k_threads.specs.declared.create.CreateSection.{CreateSection}
-use Rattle.k_threads.specs.CreateTable.{CreateAt, Outside, Locked, PushCreated, ask_of, full_point, hand_after, is_open, leads, location_with, locks_of, own_of, points, pushed_at, went_at}
+use Rattle.k_threads.specs.CreateTable.{CreateAt, Outside, Locked, PushCreated, ask_of, full_point, hand_after}
+use Rattle.k_threads.specs.CreateTable.{is_open, leads, location_with, locks_of, own_of, points, pushed_at, went_at}
 use Rattle.k_caller.specs.declared.activity.Activity.{Activity}
 use Rattle.k_caller.specs.declared.activity.Activity.TheVariants as activity
 use Rattle.k_caller.specs.Activities.{after_went}
@@ -38,7 +39,12 @@ module _ (g : Programs) (b : Board) (i : ℕ) (x : Context) (c : CreateCall) (ca
   Came p r = hand_came r (goods_asked (ask_of c x.own p) b) (hand_after c (Left p) p r)
 
   abbrev Section : CreateAt → Response → CreateSection
-  Section p r = record { call = c; own = own_of c x.own p r; location = location_with (Came p r) (leads c (Left p) p r); done = d }
+  Section p r = record {
+    call = c;
+    own = own_of c x.own p r;
+    location = location_with (Came p r) (leads c (Left p) p r);
+    done = d;
+  }
 
   abbrev Doing : CreateAt → Response → Activity
   Doing p r = after_went c.caller x.own (activity.Create (Section p r)) (went_at (pushed_at c p) (leads c (Left p) p r))
@@ -47,33 +53,129 @@ module _ (g : Programs) (b : Board) (i : ℕ) (x : Context) (c : CreateCall) (ca
   After p r = create_board g b i x c p r
 
   abbrev CreateGoes : CreateAt → Response → Type 0
-  CreateGoes p r = Goes b (After p r) (ask_of c x.own p) (locks_of c p) (Doing p r) x.own (create_at c (leads c On p r)) x.own (hand_after c (trimmed (locks_of c p) On) p asks.Released) (points c caller (Left p) p r) (points c caller On p r) (Unit {0})
+  CreateGoes p r =
+      Goes b (After p r) (ask_of c x.own p) (locks_of c p) (Doing p r) x.own (create_at c (leads c On p r)) x.own
+      (hand_after c (trimmed (locks_of c p) On) p asks.Released) (points c caller (Left p) p r) (points c caller On p r)
+      (Unit {0})
 
   full_fits : (o : Option ℕ) → FitsPoint (full_point c b.numbers o)
   full_fits None = tt
   full_fits (Some n) = tt
 
-  only_ready : (id : ThreadId) (l : Lock) → (Holds l (locks_of c (PushCreated id)) → ⊥) → goods_on (After (PushCreated id) asks.Released) l ≡ goods_on b l
+  only_ready : (id : ThreadId) (l : Lock) → (Holds l (locks_of c (PushCreated id)) → ⊥) →
+      goods_on (After (PushCreated id) asks.Released) l ≡ goods_on b l
   only_ready id (lock.Thread k) n = refl
   only_ready id lock.Table n = refl
   only_ready id lock.Ready n = absurd (n refl)
 
-  only_table : (id : ThreadId) (l : Lock) → (Holds l (locks_of c (Locked (locked.Release (release.Made id)))) → ⊥) → goods_on (After (Locked (locked.Release (release.Made id))) asks.Released) l ≡ goods_on b l
+  only_table : (id : ThreadId) (l : Lock) → (Holds l (locks_of c (Locked (locked.Release (release.Made id)))) → ⊥) →
+      goods_on (After (Locked (locked.Release (release.Made id))) asks.Released) l ≡ goods_on b l
   only_table id (lock.Thread k) n = refl
   only_table id lock.Table n = absurd (n refl)
   only_table id lock.Ready n = refl
 
-  pub create_goes : (p : CreateAt) (r : Response) → is_open p ≡ true → Answers b (ask_of c x.own p) r → asks.is_again r ≡ false → CreateGoes p r
-  create_goes (Outside outside.AcquireTable) asks.Got op an na = record { at = refl; own_word = refl; hand = refl; others = λ l n. refl; returned = tt; point = refl; fits = tt; version = tt }
-  create_goes (Locked locked.LoadCaller) (asks.Word w) op an na = record { at = refl; own_word = refl; hand = refl; others = λ l n. refl; returned = tt; point = refl; fits = fits_if (is_dead w) None (full_point c b.numbers (lowest_free b.numbers)) tt (full_fits (lowest_free b.numbers)); version = tt }
-  create_goes (Locked (locked.PlaceContext id)) asks.Placed op an na = record { at = refl; own_word = refl; hand = refl; others = λ l n. refl; returned = tt; point = refl; fits = tt; version = tt }
-  create_goes (Locked (locked.CommitCreate id)) asks.Won op an na = record { at = refl; own_word = refl; hand = refl; others = λ l n. refl; returned = tt; point = refl; fits = tt; version = tt }
-  create_goes (Locked (locked.CommitCreate id)) (asks.Lost w) op an na = record { at = refl; own_word = refl; hand = refl; others = λ l n. refl; returned = tt; point = refl; fits = tt; version = tt }
-  create_goes (Locked (locked.AcquireReady id)) asks.Got op an na = record { at = refl; own_word = refl; hand = refl; others = λ l n. refl; returned = tt; point = refl; fits = tt; version = tt }
-  create_goes (PushCreated id) asks.Released op an na = record { at = refl; own_word = refl; hand = refl; others = only_ready id; returned = refl; point = refl; fits = tt; version = tt }
-  create_goes (Locked (locked.Release (release.Made id))) asks.Released op an na = record { at = refl; own_word = refl; hand = refl; others = only_table id; returned = refl; point = refl; fits = tt; version = tt }
-  create_goes (Locked (locked.Release (release.Full alive worn))) asks.Released op an na = record { at = refl; own_word = refl; hand = refl; others = λ l n. refl; returned = refl; point = refl; fits = tt; version = tt }
-  create_goes (Locked (locked.Release release.Dead)) asks.Released op an na = record { at = refl; own_word = refl; hand = refl; others = λ l n. refl; returned = refl; point = refl; fits = tt; version = tt }
+  pub create_goes : (p : CreateAt) (r : Response) → is_open p ≡ true → Answers b (ask_of c x.own p) r → asks.is_again r ≡ false →
+      CreateGoes p r
+  create_goes (Outside outside.AcquireTable) asks.Got op an na = record {
+    at = refl;
+    own_word = refl;
+    hand = refl;
+    others = λ l n. refl;
+    returned = tt;
+    point = refl;
+    fits = tt;
+    version = tt;
+  }
+  create_goes (Locked locked.LoadCaller) (asks.Word w) op an na = record {
+    at = refl;
+    own_word = refl;
+    hand = refl;
+    others = λ l n. refl;
+    returned = tt;
+    point = refl;
+    fits = fits_if (is_dead w) None (full_point c b.numbers (lowest_free b.numbers)) tt (full_fits (lowest_free b.numbers));
+    version = tt;
+  }
+  create_goes (Locked (locked.PlaceContext id)) asks.Placed op an na = record {
+    at = refl;
+    own_word = refl;
+    hand = refl;
+    others = λ l n. refl;
+    returned = tt;
+    point = refl;
+    fits = tt;
+    version = tt;
+  }
+  create_goes (Locked (locked.CommitCreate id)) asks.Won op an na = record {
+    at = refl;
+    own_word = refl;
+    hand = refl;
+    others = λ l n. refl;
+    returned = tt;
+    point = refl;
+    fits = tt;
+    version = tt;
+  }
+  create_goes (Locked (locked.CommitCreate id)) (asks.Lost w) op an na = record {
+    at = refl;
+    own_word = refl;
+    hand = refl;
+    others = λ l n. refl;
+    returned = tt;
+    point = refl;
+    fits = tt;
+    version = tt;
+  }
+  create_goes (Locked (locked.AcquireReady id)) asks.Got op an na = record {
+    at = refl;
+    own_word = refl;
+    hand = refl;
+    others = λ l n. refl;
+    returned = tt;
+    point = refl;
+    fits = tt;
+    version = tt;
+  }
+  create_goes (PushCreated id) asks.Released op an na = record {
+    at = refl;
+    own_word = refl;
+    hand = refl;
+    others = only_ready id;
+    returned = refl;
+    point = refl;
+    fits = tt;
+    version = tt;
+  }
+  create_goes (Locked (locked.Release (release.Made id))) asks.Released op an na = record {
+    at = refl;
+    own_word = refl;
+    hand = refl;
+    others = only_table id;
+    returned = refl;
+    point = refl;
+    fits = tt;
+    version = tt;
+  }
+  create_goes (Locked (locked.Release (release.Full alive worn))) asks.Released op an na = record {
+    at = refl;
+    own_word = refl;
+    hand = refl;
+    others = λ l n. refl;
+    returned = refl;
+    point = refl;
+    fits = tt;
+    version = tt;
+  }
+  create_goes (Locked (locked.Release release.Dead)) asks.Released op an na = record {
+    at = refl;
+    own_word = refl;
+    hand = refl;
+    others = λ l n. refl;
+    returned = refl;
+    point = refl;
+    fits = tt;
+    version = tt;
+  }
   create_goes (Outside outside.AcquireTable) (asks.Owned o) op an na = absurd cc
   create_goes (Locked (locked.AcquireReady id)) (asks.Owned o) op an na = absurd cc
   create_goes (Outside (outside.Ended w)) r op an na = absurd cc

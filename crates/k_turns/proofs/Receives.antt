@@ -26,7 +26,9 @@ use Rattle.k_ipc.specs.declared.receive.ReceiveRelease.TheVariants as returns
 use Rattle.k_ipc.specs.declared.receive.ReceiveSection.{ReceiveSection}
 use Rattle.k_ipc.specs.Candidates.{first_admitted}
 use Rattle.k_ipc.specs.Words.{alive_or_dead, freed, is_joined_to}
-use Rattle.k_ipc.specs.ReceiveTable.{ReceiveAt, Outside, Locked, Pushing, act_of, ask_of, candidates_after, hand_after, is_open, is_pushed, leads, location_with, locks_of, nobody_left, own_of, point_by, points, pushed_at, still_waits, went_at}
+use Rattle.k_ipc.specs.ReceiveTable.{ReceiveAt, Outside, Locked, Pushing, act_of, ask_of, candidates_after}
+use Rattle.k_ipc.specs.ReceiveTable.{hand_after, is_open, is_pushed, leads, location_with, locks_of}
+use Rattle.k_ipc.specs.ReceiveTable.{nobody_left, own_of, point_by, points, pushed_at, still_waits, went_at}
 use Rattle.k_caller.specs.declared.activity.Activity.{Activity}
 use Rattle.k_caller.specs.declared.activity.Activity.TheVariants as activity
 use Rattle.k_caller.specs.Activities.{after_went, section_own}
@@ -44,7 +46,8 @@ freed_version me n w = by (is_joined_to w.state) refl
     by false e = rw e refl
 
 -- a push is told, and leads on
-pushed_on : (me : ThreadId) (own : StateWord) (s : Activity) (t : Bool) (priority : ℕ) (p : ReceiveLocked) → after_went me own s (went_at (if t then Some priority else None) (Locked p)) ≡ s
+pushed_on : (me : ThreadId) (own : StateWord) (s : Activity) (t : Bool) (priority : ℕ) (p : ReceiveLocked) →
+    after_went me own s (went_at (if t then Some priority else None) (Locked p)) ≡ s
 pushed_on me own s true priority p = refl
 pushed_on me own s false priority p = refl
 
@@ -60,33 +63,47 @@ module _ (g : Programs) (b : Board) (x : Context) (c : ReceiveCall) (caller : St
   Came p r = hand_came r (goods_asked (ask_of c x.own p) b) (hand_after c (Left p) p r)
 
   abbrev Section : ReceiveAt → Response → ReceiveSection
-  Section p r = record { call = c; own = own_of c x.own p r; location = location_with (Came p r) (leads c (Left p) p r); done = d }
+  Section p r = record {
+    call = c;
+    own = own_of c x.own p r;
+    location = location_with (Came p r) (leads c (Left p) p r);
+    done = d;
+  }
 
   abbrev Doing : ReceiveAt → Response → Activity
-  Doing p r = after_went c.caller (own_of c x.own p r) (activity.Receive (Section p r)) (went_at (pushed_at p) (leads c (Left p) p r))
+  Doing p r =
+      after_went c.caller (own_of c x.own p r) (activity.Receive (Section p r)) (went_at (pushed_at p) (leads c (Left p) p r))
 
   abbrev After : ReceiveAt → Response → Board
   After p r = receive_board g b c.caller.number x c p r
 
   abbrev ReceiveGoes : ReceiveAt → Response → Type 0
-  ReceiveGoes p r = Goes b (After p r) (ask_of c x.own p) (locks_of c p) (Doing p r) (own_of c x.own p r) (receive_at c (leads c On p r)) (own_of c x.own p r) (hand_after c (trimmed (locks_of c p) On) p asks.Released) (points c caller (Left p) p r) (points c caller On p r) (KeepsVersion (ask_of c x.own p))
+  ReceiveGoes p r =
+      Goes b (After p r) (ask_of c x.own p) (locks_of c p) (Doing p r) (own_of c x.own p r) (receive_at c (leads c On p r))
+      (own_of c x.own p r) (hand_after c (trimmed (locks_of c p) On) p asks.Released) (points c caller (Left p) p r)
+      (points c caller On p r) (KeepsVersion (ask_of c x.own p))
 
   nobody_fits : (o : Option SenderEntry) → FitsPoint (nobody_left c o)
   nobody_fits (Some e) = tt
   nobody_fits None = fits_if c.zero (Some (point_by c (act_of c) outcome.Nobody)) None tt tt
 
   -- no other queue than the caller's changes
-  taken : (e : SenderEntry) (l : Lock) → (Holds l (locks_of c (Locked (locked.Release (returns.Taken e)))) → ⊥) → goods_on (After (Locked (locked.Release (returns.Taken e))) asks.Released) l ≡ goods_on b l
-  taken e (lock.Thread k) n = ap (λ es. goods.Senders (record { entries = es; room = b.size })) (upd_other b.queue c.caller.number _ k (λ q. n (ap (λ z. Some (Some (lock.Thread z))) (sym q))))
+  taken : (e : SenderEntry) (l : Lock) → (Holds l (locks_of c (Locked (locked.Release (returns.Taken e)))) → ⊥) →
+      goods_on (After (Locked (locked.Release (returns.Taken e))) asks.Released) l ≡ goods_on b l
+  taken e (lock.Thread k) n =
+      ap (λ es. goods.Senders (record { entries = es; room = b.size }))
+      (upd_other b.queue c.caller.number _ k (λ q. n (ap (λ z. Some (Some (lock.Thread z))) (sym q))))
   taken e lock.Table n = refl
   taken e lock.Ready n = refl
 
-  only_ready : (e : SenderEntry) (w : StateWord) (l : Lock) → (Holds l (locks_of c (Pushing (pushing.PushFreed e w))) → ⊥) → goods_on (After (Pushing (pushing.PushFreed e w)) asks.Released) l ≡ goods_on b l
+  only_ready : (e : SenderEntry) (w : StateWord) (l : Lock) → (Holds l (locks_of c (Pushing (pushing.PushFreed e w))) → ⊥) →
+      goods_on (After (Pushing (pushing.PushFreed e w)) asks.Released) l ≡ goods_on b l
   only_ready e w (lock.Thread k) n = refl
   only_ready e w lock.Table n = refl
   only_ready e w lock.Ready n = absurd (n refl)
 
-  pub receive_goes : (p : ReceiveAt) (r : Response) → is_open p ≡ true → Answers b (ask_of c x.own p) r → asks.is_again r ≡ false → ReceiveGoes p r
+  pub receive_goes : (p : ReceiveAt) (r : Response) → is_open p ≡ true → Answers b (ask_of c x.own p) r →
+      asks.is_again r ≡ false → ReceiveGoes p r
   receive_goes (Outside outside.LoadCaller) (asks.Word w) op an na = let k = end_if (is_dead w) _ _ tt tt in record {
     at = ended_at c.caller x.own _ (alive_or_dead w _) k;
     own_word = ended_own c.caller x.own _ (alive_or_dead w _) k;
@@ -97,13 +114,78 @@ module _ (g : Programs) (b : Board) (x : Context) (c : ReceiveCall) (caller : St
     fits = fits_if (is_dead w) None (Some (point_by c (act_of c) outcome.Own)) tt tt;
     version = tt;
   }
-  receive_goes (Outside outside.AcquireOwn) asks.Got op an na = record { at = refl; own_word = refl; hand = refl; others = λ l n. refl; returned = tt; point = refl; fits = tt; version = tt }
-  receive_goes (Locked locked.LoadOwn) (asks.Word w) op an na = record { at = refl; own_word = refl; hand = refl; others = λ l n. refl; returned = tt; point = refl; fits = fits_if (is_dead w) None (nobody_left c (first_admitted c.from On.queue.entries)) tt (nobody_fits (first_admitted c.from On.queue.entries)); version = tt }
-  receive_goes (Locked (locked.LoadSender e)) (asks.Word w) op an na = record { at = refl; own_word = refl; hand = refl; others = λ l n. refl; returned = tt; point = refl; fits = fits_if (still_waits c e w) None (nobody_left c (candidates_after c On e)) tt (nobody_fits (candidates_after c On e)); version = tt }
-  receive_goes (Locked (locked.FreeSender e w)) asks.Won op an na = record { at = refl; own_word = refl; hand = refl; others = λ l n. refl; returned = tt; point = refl; fits = tt; version = freed_version c.caller (number_of e) w }
-  receive_goes (Locked (locked.FreeSender e w)) (asks.Lost v) op an na = record { at = refl; own_word = refl; hand = refl; others = λ l n. refl; returned = tt; point = refl; fits = tt; version = freed_version c.caller (number_of e) w }
-  receive_goes (Locked (locked.AcquireReady e)) asks.Got op an na = record { at = refl; own_word = refl; hand = refl; others = λ l n. refl; returned = tt; point = refl; fits = tt; version = tt }
-  receive_goes (Pushing (pushing.LoadFreed e)) (asks.Word w) op an na = record { at = refl; own_word = refl; hand = refl; others = λ l n. refl; returned = tt; point = refl; fits = tt; version = tt }
+  receive_goes (Outside outside.AcquireOwn) asks.Got op an na = record {
+    at = refl;
+    own_word = refl;
+    hand = refl;
+    others = λ l n. refl;
+    returned = tt;
+    point = refl;
+    fits = tt;
+    version = tt;
+  }
+  receive_goes (Locked locked.LoadOwn) (asks.Word w) op an na = record {
+    at = refl;
+    own_word = refl;
+    hand = refl;
+    others = λ l n. refl;
+    returned = tt;
+    point = refl;
+    fits =
+        fits_if (is_dead w) None (nobody_left c (first_admitted c.from On.queue.entries)) tt
+        (nobody_fits (first_admitted c.from On.queue.entries));
+    version = tt;
+  }
+  receive_goes (Locked (locked.LoadSender e)) (asks.Word w) op an na = record {
+    at = refl;
+    own_word = refl;
+    hand = refl;
+    others = λ l n. refl;
+    returned = tt;
+    point = refl;
+    fits = fits_if (still_waits c e w) None (nobody_left c (candidates_after c On e)) tt (nobody_fits (candidates_after c On e));
+    version = tt;
+  }
+  receive_goes (Locked (locked.FreeSender e w)) asks.Won op an na = record {
+    at = refl;
+    own_word = refl;
+    hand = refl;
+    others = λ l n. refl;
+    returned = tt;
+    point = refl;
+    fits = tt;
+    version = freed_version c.caller (number_of e) w;
+  }
+  receive_goes (Locked (locked.FreeSender e w)) (asks.Lost v) op an na = record {
+    at = refl;
+    own_word = refl;
+    hand = refl;
+    others = λ l n. refl;
+    returned = tt;
+    point = refl;
+    fits = tt;
+    version = freed_version c.caller (number_of e) w;
+  }
+  receive_goes (Locked (locked.AcquireReady e)) asks.Got op an na = record {
+    at = refl;
+    own_word = refl;
+    hand = refl;
+    others = λ l n. refl;
+    returned = tt;
+    point = refl;
+    fits = tt;
+    version = tt;
+  }
+  receive_goes (Pushing (pushing.LoadFreed e)) (asks.Word w) op an na = record {
+    at = refl;
+    own_word = refl;
+    hand = refl;
+    others = λ l n. refl;
+    returned = tt;
+    point = refl;
+    fits = tt;
+    version = tt;
+  }
   receive_goes (Pushing (pushing.PushFreed e w)) asks.Released op an na = record {
     at = ap at_in (pushed_on c.caller x.own _ (is_pushed e w) w.priority (locked.Release (returns.Taken e)));
     own_word = ap (section_own x.own) (pushed_on c.caller x.own _ (is_pushed e w) w.priority (locked.Release (returns.Taken e)));
@@ -114,24 +196,186 @@ module _ (g : Programs) (b : Board) (x : Context) (c : ReceiveCall) (caller : St
     fits = tt;
     version = tt;
   }
-  receive_goes (Locked locked.CommitWait) asks.Won op an na = record { at = refl; own_word = refl; hand = refl; others = λ l n. refl; returned = tt; point = refl; fits = tt; version = refl }
-  receive_goes (Locked locked.CommitWait) (asks.Lost v) op an na = record { at = refl; own_word = refl; hand = refl; others = λ l n. refl; returned = tt; point = refl; fits = tt; version = refl }
-  receive_goes (Locked (locked.CommitGone from)) asks.Won op an na = record { at = refl; own_word = refl; hand = refl; others = λ l n. refl; returned = tt; point = refl; fits = tt; version = refl }
-  receive_goes (Locked (locked.CommitGone from)) (asks.Lost v) op an na = record { at = refl; own_word = refl; hand = refl; others = λ l n. refl; returned = tt; point = refl; fits = tt; version = refl }
-  receive_goes (Locked (locked.LoadPartner from)) (asks.Word w) op an na = record { at = refl; own_word = refl; hand = refl; others = λ l n. refl; returned = tt; point = refl; fits = fits_if (is_present_in w from) None (Some (point_by c act.Gone outcome.Freed)) tt tt; version = tt }
-  receive_goes (Locked locked.LoadPicking) (asks.Word w) op an na = record { at = refl; own_word = refl; hand = refl; others = λ l n. refl; returned = tt; point = refl; fits = tt; version = tt }
-  receive_goes (Locked (locked.LoadNext e)) (asks.Word w) op an na = record { at = refl; own_word = refl; hand = refl; others = λ l n. refl; returned = tt; point = refl; fits = tt; version = tt }
-  receive_goes (Locked (locked.FreeNext e w)) asks.Won op an na = record { at = refl; own_word = refl; hand = refl; others = λ l n. refl; returned = tt; point = refl; fits = tt; version = freed_version c.caller (number_of e) w }
-  receive_goes (Locked (locked.FreeNext e w)) (asks.Lost v) op an na = record { at = refl; own_word = refl; hand = refl; others = λ l n. refl; returned = tt; point = refl; fits = tt; version = freed_version c.caller (number_of e) w }
-  receive_goes (Locked (locked.EndPick e w)) asks.Won op an na = record { at = refl; own_word = refl; hand = refl; others = λ l n. refl; returned = tt; point = refl; fits = tt; version = refl }
-  receive_goes (Locked (locked.EndPick e w)) (asks.Lost v) op an na = record { at = refl; own_word = refl; hand = refl; others = λ l n. refl; returned = tt; point = refl; fits = tt; version = refl }
-  receive_goes (Locked locked.SettlePick) asks.Won op an na = record { at = refl; own_word = refl; hand = refl; others = λ l n. refl; returned = tt; point = refl; fits = tt; version = refl }
-  receive_goes (Locked locked.SettlePick) (asks.Lost v) op an na = record { at = refl; own_word = refl; hand = refl; others = λ l n. refl; returned = tt; point = refl; fits = tt; version = refl }
-  receive_goes (Locked (locked.Release returns.Waits)) asks.Released op an na = record { at = refl; own_word = refl; hand = refl; others = λ l n. refl; returned = refl; point = refl; fits = tt; version = tt }
-  receive_goes (Locked (locked.Release returns.Delivered)) asks.Released op an na = record { at = refl; own_word = refl; hand = refl; others = λ l n. refl; returned = refl; point = refl; fits = tt; version = tt }
-  receive_goes (Locked (locked.Release returns.Gone)) asks.Released op an na = record { at = refl; own_word = refl; hand = refl; others = λ l n. refl; returned = refl; point = refl; fits = tt; version = tt }
-  receive_goes (Locked (locked.Release returns.Nobody)) asks.Released op an na = record { at = refl; own_word = refl; hand = refl; others = λ l n. refl; returned = refl; point = refl; fits = tt; version = tt }
-  receive_goes (Locked (locked.Release returns.Dead)) asks.Released op an na = record { at = refl; own_word = refl; hand = refl; others = λ l n. refl; returned = refl; point = refl; fits = tt; version = tt }
+  receive_goes (Locked locked.CommitWait) asks.Won op an na = record {
+    at = refl;
+    own_word = refl;
+    hand = refl;
+    others = λ l n. refl;
+    returned = tt;
+    point = refl;
+    fits = tt;
+    version = refl;
+  }
+  receive_goes (Locked locked.CommitWait) (asks.Lost v) op an na = record {
+    at = refl;
+    own_word = refl;
+    hand = refl;
+    others = λ l n. refl;
+    returned = tt;
+    point = refl;
+    fits = tt;
+    version = refl;
+  }
+  receive_goes (Locked (locked.CommitGone from)) asks.Won op an na = record {
+    at = refl;
+    own_word = refl;
+    hand = refl;
+    others = λ l n. refl;
+    returned = tt;
+    point = refl;
+    fits = tt;
+    version = refl;
+  }
+  receive_goes (Locked (locked.CommitGone from)) (asks.Lost v) op an na = record {
+    at = refl;
+    own_word = refl;
+    hand = refl;
+    others = λ l n. refl;
+    returned = tt;
+    point = refl;
+    fits = tt;
+    version = refl;
+  }
+  receive_goes (Locked (locked.LoadPartner from)) (asks.Word w) op an na = record {
+    at = refl;
+    own_word = refl;
+    hand = refl;
+    others = λ l n. refl;
+    returned = tt;
+    point = refl;
+    fits = fits_if (is_present_in w from) None (Some (point_by c act.Gone outcome.Freed)) tt tt;
+    version = tt;
+  }
+  receive_goes (Locked locked.LoadPicking) (asks.Word w) op an na = record {
+    at = refl;
+    own_word = refl;
+    hand = refl;
+    others = λ l n. refl;
+    returned = tt;
+    point = refl;
+    fits = tt;
+    version = tt;
+  }
+  receive_goes (Locked (locked.LoadNext e)) (asks.Word w) op an na = record {
+    at = refl;
+    own_word = refl;
+    hand = refl;
+    others = λ l n. refl;
+    returned = tt;
+    point = refl;
+    fits = tt;
+    version = tt;
+  }
+  receive_goes (Locked (locked.FreeNext e w)) asks.Won op an na = record {
+    at = refl;
+    own_word = refl;
+    hand = refl;
+    others = λ l n. refl;
+    returned = tt;
+    point = refl;
+    fits = tt;
+    version = freed_version c.caller (number_of e) w;
+  }
+  receive_goes (Locked (locked.FreeNext e w)) (asks.Lost v) op an na = record {
+    at = refl;
+    own_word = refl;
+    hand = refl;
+    others = λ l n. refl;
+    returned = tt;
+    point = refl;
+    fits = tt;
+    version = freed_version c.caller (number_of e) w;
+  }
+  receive_goes (Locked (locked.EndPick e w)) asks.Won op an na = record {
+    at = refl;
+    own_word = refl;
+    hand = refl;
+    others = λ l n. refl;
+    returned = tt;
+    point = refl;
+    fits = tt;
+    version = refl;
+  }
+  receive_goes (Locked (locked.EndPick e w)) (asks.Lost v) op an na = record {
+    at = refl;
+    own_word = refl;
+    hand = refl;
+    others = λ l n. refl;
+    returned = tt;
+    point = refl;
+    fits = tt;
+    version = refl;
+  }
+  receive_goes (Locked locked.SettlePick) asks.Won op an na = record {
+    at = refl;
+    own_word = refl;
+    hand = refl;
+    others = λ l n. refl;
+    returned = tt;
+    point = refl;
+    fits = tt;
+    version = refl;
+  }
+  receive_goes (Locked locked.SettlePick) (asks.Lost v) op an na = record {
+    at = refl;
+    own_word = refl;
+    hand = refl;
+    others = λ l n. refl;
+    returned = tt;
+    point = refl;
+    fits = tt;
+    version = refl;
+  }
+  receive_goes (Locked (locked.Release returns.Waits)) asks.Released op an na = record {
+    at = refl;
+    own_word = refl;
+    hand = refl;
+    others = λ l n. refl;
+    returned = refl;
+    point = refl;
+    fits = tt;
+    version = tt;
+  }
+  receive_goes (Locked (locked.Release returns.Delivered)) asks.Released op an na = record {
+    at = refl;
+    own_word = refl;
+    hand = refl;
+    others = λ l n. refl;
+    returned = refl;
+    point = refl;
+    fits = tt;
+    version = tt;
+  }
+  receive_goes (Locked (locked.Release returns.Gone)) asks.Released op an na = record {
+    at = refl;
+    own_word = refl;
+    hand = refl;
+    others = λ l n. refl;
+    returned = refl;
+    point = refl;
+    fits = tt;
+    version = tt;
+  }
+  receive_goes (Locked (locked.Release returns.Nobody)) asks.Released op an na = record {
+    at = refl;
+    own_word = refl;
+    hand = refl;
+    others = λ l n. refl;
+    returned = refl;
+    point = refl;
+    fits = tt;
+    version = tt;
+  }
+  receive_goes (Locked (locked.Release returns.Dead)) asks.Released op an na = record {
+    at = refl;
+    own_word = refl;
+    hand = refl;
+    others = λ l n. refl;
+    returned = refl;
+    point = refl;
+    fits = tt;
+    version = tt;
+  }
   receive_goes (Locked (locked.Release (returns.Taken e))) asks.Released op an na = record {
     at = refl;
     own_word = refl;

@@ -37,7 +37,8 @@ use Rattle.k_whole.specs.Next.{settles}
 -- EXCHANGES THAT ARE NEVER LOST
 
 -- an exchange of the word that is there is won
-won_is : (b : Board) (n : ℕ) (old new : StateWord) (r : Response) → (b.seen n).word ≡ old → Answers b (asks.Exchange n old new) r → r ≡ asks.Won
+won_is : (b : Board) (n : ℕ) (old new : StateWord) (r : Response) → (b.seen n).word ≡ old →
+    Answers b (asks.Exchange n old new) r → r ≡ asks.Won
 won_is b n old new asks.Won e a = refl
 won_is b n old new (asks.Lost w) e a = absurd (a.1 (sym a.0 ∙ e))
 won_is b n old new (asks.Word w) e a = absurd a
@@ -75,7 +76,8 @@ module _ (g : Programs) (b : Board) (good : IsGood g b) (i : ℕ) where
   own_by : (c : ReceiveCall) → c.caller.number ≡ i → (b.seen i).word ≡ (b.context i).own → Own c
   own_by c me same = ap (λ (n : ℕ). (b.seen n).word) me ∙ same
 
-  pub receive_won : (c : ReceiveCall) (p : ReceiveLocked) (r : Response) → (b.context i).at ≡ InReceive c (receive.Locked p) → settles p ≡ true
+  pub receive_won : (c : ReceiveCall) (p : ReceiveLocked) (r : Response) → (b.context i).at ≡ InReceive c (receive.Locked p) →
+      settles p ≡ true
       → Answers b (receive.ask_of c (b.context i).own (receive.Locked p)) r → r ≡ asks.Won
   receive_won c locked.CommitWait r at s a =
       let f = facts_at (InReceive c (receive.Locked locked.CommitWait)) at in
@@ -99,7 +101,8 @@ module _ (g : Programs) (b : Board) (good : IsGood g b) (i : ℕ) where
   receive_won c (locked.FreeNext e w) r at s a = absurd (false≢true s)
   receive_won c (locked.Release e) r at s a = absurd (false≢true s)
 
-  pub create_won : (c : CreateCall) (id : ThreadId) (r : Response) → (b.context i).at ≡ InCreate c (create.Locked (create_locked.CommitCreate id))
+  pub create_won : (c : CreateCall) (id : ThreadId) (r : Response) →
+      (b.context i).at ≡ InCreate c (create.Locked (create_locked.CommitCreate id))
       → Answers b (create.ask_of c (b.context i).own (create.Locked (create_locked.CommitCreate id))) r → r ≡ asks.Won
   create_won c id r at a =
       let f = facts_at (InCreate c (create.Locked (create_locked.CommitCreate id))) at in
@@ -107,7 +110,8 @@ module _ (g : Programs) (b : Board) (good : IsGood g b) (i : ℕ) where
 
   -- A PLACE THAT IS EMPTY
 
-  pub place_empty : (c : CreateCall) (id : ThreadId) → (b.context i).at ≡ InCreate c (create.Locked (create_locked.PlaceContext id))
+  pub place_empty : (c : CreateCall) (id : ThreadId) → (b.context i).at ≡
+      InCreate c (create.Locked (create_locked.PlaceContext id))
       → ((b.context id.number).at ≡ Nowhere) × (is_dead (b.seen id.number).word ≡ true)
   place_empty c id at =
       let f = facts_at (InCreate c (create.Locked (create_locked.PlaceContext id))) at in
@@ -115,13 +119,16 @@ module _ (g : Programs) (b : Board) (good : IsGood g b) (i : ℕ) where
 
 -- LISTS AND QUEUES
 
-pub pushed_unlisted : (g : Programs) (b : Board) (w : World) → IsPair g b w → (i : ℕ) (who : ThreadId) (p : ℕ) → (look_at (b.context i).at).push ≡ Some who
+pub pushed_unlisted : (g : Programs) (b : Board) (w : World) → IsPair g b w → (i : ℕ) (who : ThreadId) (p : ℕ) →
+    (look_at (b.context i).at).push ≡ Some who
     → times who (list_of b.lists.lists p) ≡ 0
 pushed_unlisted g b w h i who p e =
     let tokens = (h.world.1).tokens in
     let holder = tokens.push i who (ap (λ (x : Threads). x.push i) h.alike.agrees.threads ∙ e) in
     ap (λ (l : ℕ → List ThreadId). times who (l p)) (sym h.alike.agrees.lists) ∙ tokens.list p who ∙ ap (times_in p) holder
 
-pub queue_short : (script : Script) → IsScript script → (b : Board) (es : List Entry) (k : KernelState) → BoardHolds script b es k → (t : ℕ) → t < b.size → length (b.queue t) < b.size
+pub queue_short : (script : Script) → IsScript script → (b : Board) (es : List Entry) (k : KernelState) →
+    BoardHolds script b es k → (t : ℕ) → t < b.size → length (b.queue t) < b.size
 queue_short script limits b es k h t inside =
-    short_queue b.size t (b.queue t) inside (h.proper.queues.once t) (λ n s. entered script limits b (record { entries = es; state = k; holds = h }) t n s)
+    short_queue b.size t (b.queue t) inside (h.proper.queues.once t)
+    (λ n s. entered script limits b (record { entries = es; state = k; holds = h }) t n s)

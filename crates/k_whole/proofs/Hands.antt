@@ -1,17 +1,21 @@
 -- A step of a carrier leaves all other carriers as they are.
-use Rattle.std.proofs.Common.{◌≡◌, ◌≢◌, ℕ, ◌<◌, ◌≤◌, Bool, true, false, refl, sym, ap, ◌∙◌, subst, Option, Some, None, arith, List, [], ◌∷◌, inl, inr}
+use Rattle.std.proofs.Common.{◌≡◌, ◌≢◌, ℕ, ◌<◌, ◌≤◌, Bool, true, false, refl, sym, ap, ◌∙◌}
+use Rattle.std.proofs.Common.{subst, Option, Some, None, arith, List, [], ◌∷◌, inl, inr}
 use Rattle.std.proofs.lemmas.Bool.{cases_lt}
 use Rattle.k_ids.specs.declared.threads.ThreadId.{ThreadId}
 use Rattle.k_ids.specs.declared.context_word.ContextWord.{ContextWord}
 use Rattle.k_model.specs.Maps.{upd}
 use Rattle.k_model.proofs.Maps.{upd_cases, upd_other}
-use Rattle.k_tokens.specs.World.{Carrier, Condition, Absent, Awake, Asleep, Ended, Dead, ContextName, OfCarrier, OfThread, Stage, World, has_switch, with_carrier}
+use Rattle.k_tokens.specs.World.{Carrier, Condition, Absent, Awake, Asleep, Ended, Dead, ContextName}
+use Rattle.k_tokens.specs.World.{OfCarrier, OfThread, Stage, World, has_switch, with_carrier}
 use Rattle.k_tokens.specs.World as stage
 use Rattle.k_tokens.specs.Steps.{ThreadStep, after_step}
 use Rattle.k_tokens.specs.Steps as steps
 use Rattle.k_switching.specs.Switch.{acquired_by, before_take, first_taken_by, first_taken_of, highest_filled, switch_step}
-use Rattle.k_switching.specs.Rules.{Target, Helped, ItsOwn, ItsGoals, beginning, begins, carrier_step, carrier_step_by, given, given_own, gives}
-use Rattle.k_switching.specs.Rules.{hand_step, has_switched, context_step, parked, sliced, started, take_step, taken, taken_goal, taken_own, target_of, target_step, taken_as_it_is}
+use Rattle.k_switching.specs.Rules.{Target, Helped, ItsOwn, ItsGoals, beginning, begins}
+use Rattle.k_switching.specs.Rules.{carrier_step, carrier_step_by, given, given_own, gives}
+use Rattle.k_switching.specs.Rules.{hand_step, has_switched, context_step, parked, sliced, started, take_step}
+use Rattle.k_switching.specs.Rules.{taken, taken_goal, taken_own, target_of, target_step, taken_as_it_is}
 use Rattle.k_whole.specs.Whole.{HandsWithin}
 
 -- there are as many carriers, and all but this one are as they were
@@ -65,7 +69,8 @@ module _ (c : ℕ) where
   switch_one w d stage.LoadGoal = none w _ refl refl
   switch_one w d stage.LoadStart = none w _ refl refl
   switch_one w d stage.ReleaseReady =
-      then w (before_take w d) _ (none w (before_take w d) refl refl) (first_one (before_take w d) d (highest_filled 64 (before_take w d).lists))
+      then w (before_take w d) _ (none w (before_take w d) refl refl)
+      (first_one (before_take w d) d (highest_filled 64 (before_take w d).lists))
   switch_one w d stage.Finished = none w _ refl refl
 
   given_one : (w : World) (x : ContextName) → IsOfOne c w (given w c x)
@@ -141,12 +146,15 @@ hands_stay w c s low h d far =
 pub hand_within : (w : World) (c : ℕ) (x : ContextName) → HandsWithin w → (w.carrier c).hand ≡ Some x → c < w.carriers
 hand_within w c x h e = elim (cases_lt c w.carriers) [ inl l ↦ l | inr l ↦ absurd (some_not (h c l) e) ]
 
-same_hands : (w v : World) → v.carriers ≡ w.carriers → ((d : ℕ) → (v.carrier d).hand ≡ (w.carrier d).hand) → HandsWithin w → HandsWithin v
+same_hands : (w v : World) → v.carriers ≡ w.carriers → ((d : ℕ) → (v.carrier d).hand ≡ (w.carrier d).hand) → HandsWithin w →
+    HandsWithin v
 same_hands w v e f h d far = f d ∙ h d (subst (λ (n : ℕ). n ≤ d) e far)
 
-changed_hand : (w : World) (c : ℕ) (k : Carrier) → k.hand ≡ (w.carrier c).hand → (d : ℕ) → (upd w.carrier c k d).hand ≡ (w.carrier d).hand
+changed_hand : (w : World) (c : ℕ) (k : Carrier) → k.hand ≡ (w.carrier c).hand → (d : ℕ) →
+    (upd w.carrier c k d).hand ≡ (w.carrier d).hand
 changed_hand w c k e d =
-    upd_cases (λ (x : Carrier). x.hand ≡ (w.carrier d).hand) w.carrier c k d (λ q. e ∙ ap (λ (n : ℕ). (w.carrier n).hand) (sym q)) (λ _. refl)
+    upd_cases (λ (x : Carrier). x.hand ≡ (w.carrier d).hand) w.carrier c k d (λ q. e ∙ ap (λ (n : ℕ). (w.carrier n).hand) (sym q))
+    (λ _. refl)
 
 module _ (w : World) (c : ℕ) (h : HandsWithin w) where
   pub started_hands : (t : ℕ) → HandsWithin (started w c t)

@@ -21,7 +21,8 @@ use Rattle.k_whole.proofs.Hands.{hand_within}
 same_context : {i t : ℕ} → Some (OfThread i) ≡ Some (OfThread t) → i ≡ t
 same_context e = cc
 
-module _ (g : Programs) (b : Board) (w : World) (h : IsPair g b w) (hands : HandsWithin w) (single : w.carriers ≡ 1) (c i : ℕ) (a : IsAsked w c (OfThread i)) where
+module _ (g : Programs) (b : Board) (w : World) (h : IsPair g b w) (hands : HandsWithin w) (single : w.carriers ≡ 1) (c i : ℕ)
+    (a : IsAsked w c (OfThread i)) where
   pub in_no_hand : (t : ℕ) → t ≢ i → w.held t ≡ None
   in_no_hand t n = go (w.held t) refl
     where
@@ -36,7 +37,9 @@ module _ (g : Programs) (b : Board) (w : World) (h : IsPair g b w) (hands : Hand
 
   -- nobody removes itself
   other : (d : DestroyCall) → (b.context i).at ≡ InDestroy d (destroy.Locked destroy_locked.RemoveContext) → d.who.number ≢ i
-  other d at e = false≢true (sym ((h.world.1).threads.victim d.who victim).1 ∙ ap w.threads.present e ∙ ((h.world.1).threads.table_is i owner).1)
+  other d at e =
+      false≢true (sym ((h.world.1).threads.victim d.who victim).1 ∙ ap w.threads.present e
+      ∙ ((h.world.1).threads.table_is i owner).1)
     where
       held : Holds lock.Table (locks_at (b.context i).at)
       held = subst (λ (p : At). Holds lock.Table (locks_at p)) (sym at) refl
@@ -49,7 +52,8 @@ module _ (g : Programs) (b : Board) (w : World) (h : IsPair g b w) (hands : Hand
 
       victim : w.threads.victim ≡ Some d.who
       victim = ap (λ (x : Threads). x.victim) h.alike.agrees.threads
-          ∙ ap (λ (o : Option ℕ). by_owner None (λ (l : Look). l.victim) (looks_of b) o) table ∙ ap (λ (p : At). (look_at p).victim) at
+          ∙ ap (λ (o : Option ℕ). by_owner None (λ (l : Look). l.victim) (looks_of b) o) table
+          ∙ ap (λ (p : At). (look_at p).victim) at
 
   pub is_free : (b' : Board) → IsFreeToRemove b w i b'
   is_free b' d at gone = in_no_hand d.who.number (other d at)

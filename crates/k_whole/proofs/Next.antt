@@ -30,7 +30,8 @@ use Rattle.k_whole.specs.Next.{HasStep, has_next, number_of}
 
 module _ (g : Programs) (b : Board) (i : ℕ) where
   -- an awake context that isn't a new thread's has a next step
-  awake_next : (p : At) → AllSay g b i (b.context i) (facts_of p) → (look_at p).condition ≡ Awake → (p ≡ Coming → ⊥) → has_next p ≡ true
+  awake_next : (p : At) → AllSay g b i (b.context i) (facts_of p) → (look_at p).condition ≡ Awake → (p ≡ Coming → ⊥) →
+      has_next p ≡ true
   awake_next (Alone (location.Between last)) f e n = refl
   awake_next (Alone location.FallAsleep) f e n = refl
   awake_next (Alone location.LookAgain) f e n = refl
@@ -101,7 +102,9 @@ module _ (g : Programs) (b : Board) (w : World) (h : IsPair g b w) (c : ℕ) whe
       run = is_run w h.world.0 h.world.1 c i a.hand a.kept
 
       next : w.threads.made i ≡ w.threads.version i + 1
-      next = by_threads (λ (x : Threads). x.made i) ∙ ap (λ (p : At). next_by p) at ∙ ap (λ (v : ℕ). v + 1) (sym (by_threads (λ (x : Threads). x.version i)))
+      next =
+          by_threads (λ (x : Threads). x.made i) ∙ ap (λ (p : At). next_by p) at
+          ∙ ap (λ (v : ℕ). v + 1) (sym (by_threads (λ (x : Threads). x.version i)))
         where
           next_by : At → ℕ
           next_by p = if (look_at p).is_coming then (b.seen i).word.version + 1 else (b.seen i).word.version
@@ -118,9 +121,11 @@ module _ (g : Programs) (b : Board) (w : World) (h : IsPair g b w) (c : ℕ) whe
 
   pub asked_next : (x : ContextName) → IsAsked w c x → has_next (b.context (number_of b x)).at ≡ true
   asked_next (OfThread i) a =
-      awake_next g b i (b.context i).at (h.good.places i) (sym (by_threads (λ (x : Threads). x.condition i)) ∙ has_step w c (OfThread i) h.world a)
+      awake_next g b i (b.context i).at (h.good.places i) (sym (by_threads (λ (x : Threads). x.condition i))
+      ∙ has_step w c (OfThread i) h.world a)
       (not_coming i a)
-  asked_next (OfCarrier d) a = open_next (b.context (b.size + d)).at (w.own d) (h.alike.stages d) (has_step w c (OfCarrier d) h.world a)
+  asked_next (OfCarrier d) a =
+      open_next (b.context (b.size + d)).at (w.own d) (h.alike.stages d) (has_step w c (OfCarrier d) h.world a)
 
   pub asked_step : (calls : Board → ℕ → SwitchCall) (x : ContextName) → IsAsked w c x → HasStep g calls b (number_of b x)
   asked_step calls x a =

@@ -1,5 +1,6 @@
 -- Each carrier has a step: what its next step in the world is, is one of the steps that keep the whole.
-use Rattle.std.proofs.Common.{◌≡◌, ◌≢◌, ℕ, ◌+◌, ◌-◌, ◌<◌, Bool, true, false, refl, sym, ap, ◌∙◌, subst, arith, Option, Some, None, inl, inr}
+use Rattle.std.proofs.Common.{◌≡◌, ◌≢◌, ℕ, ◌+◌, ◌-◌, ◌<◌, Bool, true, false, refl, sym}
+use Rattle.std.proofs.Common.{ap, ◌∙◌, subst, arith, Option, Some, None, inl, inr}
 use Rattle.std.specs.Prelude.{◌&&◌, ◌==◌}
 use Rattle.std.proofs.lemmas.Bool.{cases_lt, false≢true}
 use Rattle.std.proofs.lemmas.Bool.Decides.{nat_tests}
@@ -18,10 +19,13 @@ use Rattle.k_board.specs.Words.{Programs}
 use Rattle.k_board.specs.Boards.{At, Alone, InSend, InReceive, InCreate, InDestroy, InSwitch, Resting, Coming, Nowhere, Board}
 use Rattle.k_board.specs.Turns.{is_going}
 use Rattle.k_tokens.specs.Steps.{FindsTaken}
-use Rattle.k_tokens.specs.World.{Absent, Awake, Asleep, Ended, Dead, Carrier, Condition, ContextName, OfCarrier, OfThread, OwnContext, Threads, World, has_switch, is_finished, with_carrier}
+use Rattle.k_tokens.specs.World.{Absent, Awake, Asleep, Ended, Dead, Carrier, Condition, ContextName, OfCarrier}
+use Rattle.k_tokens.specs.World.{OfThread, OwnContext, Threads, World, has_switch, is_finished, with_carrier}
 use Rattle.k_switching.specs.Claims.{IsAsked}
-use Rattle.k_switching.specs.Rules.{Target, Helped, ItsOwn, ItsGoals, beginning, begins, carrier_step, carrier_step_by, context_at, free_step, given, given_own, gives}
-use Rattle.k_switching.specs.Rules.{hand_step, has_switched, same_word, switching_begun, take_step, taken, taken_goal, taken_own, target_of, target_step, taken_as_it_is, word_of}
+use Rattle.k_switching.specs.Rules.{Target, Helped, ItsOwn, ItsGoals, beginning, begins, carrier_step}
+use Rattle.k_switching.specs.Rules.{carrier_step_by, context_at, free_step, given, given_own, gives}
+use Rattle.k_switching.specs.Rules.{hand_step, has_switched, same_word, switching_begun, take_step, taken}
+use Rattle.k_switching.specs.Rules.{taken_goal, taken_own, target_of, target_step, taken_as_it_is, word_of}
 use Rattle.k_grants.specs.Granted.{IsFreeToRemove}
 use Rattle.k_stages.specs.Stages.{IsFrom, IsOwn, id_in}
 use Rattle.k_sections.specs.Stepping.{board_after, response_to}
@@ -150,16 +154,20 @@ module _ (g : Programs) (b : Board) (w : World) (h : IsPair g b w) (owns : OwnsT
 
         own : (d : ℕ) → x ≡ OfCarrier d → (v : Bool) → has_switched w c (OfCarrier d) ≡ v → HasStep
         own d e false f =
-            still_step nobody (given_own w c d false) (made ∙ ap (given w c) e ∙ ap (given_own w c d) f) (record { threads = refl; ready = refl; lists = refl; running = refl; own = refl })
+            still_step nobody (given_own w c d false) (made ∙ ap (given w c) e ∙ ap (given_own w c d) f)
+            (record { threads = refl; ready = refl; lists = refl; running = refl; own = refl })
         own d e true f =
             let p = and_parts (d == c) (is_finished (w.own d).stage) f in
             let eqn = p.0 in
             let same : d ≡ c = grind (arith, nat_tests, eqn) in
-            let s = finished_at (b.context (b.size + c)).at (w.own c) (h.alike.stages c) (subst (λ (n : ℕ). is_finished (w.own n).stage ≡ true) same p.1) in
+            let s = finished_at (b.context (b.size + c)).at (w.own c) (h.alike.stages c)
+            (subst (λ (n : ℕ). is_finished (w.own n).stage ≡ true) same p.1) in
             (_, whole.ends_switch s.call s.switched (hand ∙ ap Some e ∙ ap (λ (n : ℕ). Some (OfCarrier n)) same) s.is)
 
         go : (y : ContextName) → x ≡ y → HasStep
-        go (OfThread t) e = still_step nobody (given w c (OfThread t)) (made ∙ ap (given w c) e) (record { threads = refl; ready = refl; lists = refl; running = refl; own = refl })
+        go (OfThread t) e =
+            still_step nobody (given w c (OfThread t)) (made ∙ ap (given w c) e)
+            (record { threads = refl; ready = refl; lists = refl; running = refl; own = refl })
         go (OfCarrier d) e = own d e (has_switched w c (OfCarrier d)) refl
 
   -- WITH NOTHING IN HAND
@@ -179,14 +187,17 @@ module _ (g : Programs) (b : Board) (w : World) (h : IsPair g b w) (owns : OwnsT
     inside i at = elim (cases_lt i b.size) [
       | inl l ↦ l
       | inr l ↦ let far : i ≡ b.size + (i - b.size) = omega (arith, l) in
-          absurd (subst (λ (p : At). IsOwn p (w.own (i - b.size))) (ap (λ (n : ℕ). (b.context n).at) (sym far) ∙ at) (h.alike.stages (i - b.size)))
+          absurd (subst (λ (p : At). IsOwn p (w.own (i - b.size))) (ap (λ (n : ℕ). (b.context n).at) (sym far) ∙ at)
+          (h.alike.stages (i - b.size)))
     ]
 
-    taken_goal_step : (i : ℕ) (k : Condition) → w.threads.condition i ≡ k → carrier_step w c FindsTaken ≡ taken_goal w c i k → HasStep
+    taken_goal_step : (i : ℕ) (k : Condition) → w.threads.condition i ≡ k → carrier_step w c FindsTaken ≡ taken_goal w c i k →
+        HasStep
     taken_goal_step i Asleep f e =
         let at = asleep_at (b.context i).at (sym (ap (λ (x : Threads). x.condition i) h.alike.agrees.threads) ∙ f) in
         (_, whole.wakes i hand e (inside i at) at)
-    taken_goal_step i Dead f e = still_step nobody _ e (record { threads = refl; ready = refl; lists = refl; running = refl; own = refl })
+    taken_goal_step i Dead f e =
+        still_step nobody _ e (record { threads = refl; ready = refl; lists = refl; running = refl; own = refl })
     taken_goal_step i Absent f e = still_step nobody _ e (as_it_is_still w c (OfThread i))
     taken_goal_step i Awake f e = still_step nobody _ e (as_it_is_still w c (OfThread i))
     taken_goal_step i Ended f e = still_step nobody _ e (as_it_is_still w c (OfThread i))
@@ -201,12 +212,15 @@ module _ (g : Programs) (b : Board) (w : World) (h : IsPair g b w) (owns : OwnsT
     won_step t false e = still_step nobody _ e (record { threads = refl; ready = refl; lists = refl; running = refl; own = refl })
 
     looked_step : (t : Target) (o : Option ContextWord) → carrier_step w c FindsTaken ≡ target_step w c t o → HasStep
-    looked_step t None e = still_step nobody _ e (record { threads = refl; ready = refl; lists = refl; running = refl; own = refl })
+    looked_step t None e =
+        still_step nobody _ e (record { threads = refl; ready = refl; lists = refl; running = refl; own = refl })
     looked_step t (Some word) e = won_step t (same_word word (word_of w (context_at c t))) e
 
     begun_step : (v : Bool) → carrier_step w c FindsTaken ≡ free_step (beginning w c v) c → HasStep
     begun_step false e = looked_step (target_of (w.carrier c)) (w.carrier c).looked e
-    begun_step true e = still_step nobody _ e (subst (λ (o : Option ContextWord). IsStill w (target_step u c (target_of (u.carrier c)) o)) (sym blind)
+    begun_step true e =
+        still_step nobody _ e (subst (λ (o : Option ContextWord). IsStill w (target_step u c (target_of (u.carrier c)) o))
+        (sym blind)
         (record { threads = refl; ready = refl; lists = refl; running = refl; own = refl }))
       where
         u : World
@@ -224,8 +238,11 @@ module _ (g : Programs) (b : Board) (w : World) (h : IsPair g b w) (owns : OwnsT
     asked_hand_step : (x : ContextName) → IsAsked w c x → HasStep
     asked_hand_step (OfThread i) a =
         let calls : Board → ℕ → SwitchCall = λ _ _. call_with (w.carrier c) None in
-        let after : Board = board_after g calls b i (b.context i).at in
-        (after, whole.runs i after (record { above = false; waits = FindsTaken }) a tt (free i a after) (asked_step g b w h c calls (OfThread i) a).turn)
+        let after : Board = board_after g calls b i (b.context i).at in (
+          after,
+          whole.runs i after (record { above = false; waits = FindsTaken }) a tt (free i a after)
+              (asked_step g b w h c calls (OfThread i) a).turn,
+        )
     asked_hand_step (OfCarrier d) a =
         let s = going_at (b.context (b.size + d)).at (w.own d) (h.alike.stages d) (asked_next g b w h c (OfCarrier d) a) in
         let ask = switch.ask_of s.call s.at in

@@ -89,7 +89,8 @@ module _ (g : Programs) (b : Board) (w : World) (h : IsPair g b w) (rest : AtRes
 
   unowned : (t : ℕ) (o : Option ℕ) → b.owner t ≡ o → o ≡ None
   unowned t None e = refl
-  unowned t (Some n) e = absurd (false≢true (sym (unlocked n) ∙ owns_any (b.context n).at t (h.good.locks.held (lock.Thread t) n e)))
+  unowned t (Some n) e =
+      absurd (false≢true (sym (unlocked n) ∙ owns_any (b.context n).at t (h.good.locks.held (lock.Thread t) n e)))
 
   present : (t : ℕ) → is_dead (b.seen t).word ≡ false → w.threads.present t ≡ true
   present t alive = by_threads (λ (x : Threads). x.present t) ∙ ap not alive
@@ -108,5 +109,6 @@ module _ (g : Programs) (b : Board) (w : World) (h : IsPair g b w) (rest : AtRes
     ];
   }
 
-pub idle_all_rest : (g : Programs) (b : Board) (w : World) (c : ℕ) → IsPair g b w → is_idle (w.own c) ≡ true → w.running ≡ 0 → NothingToCome w → AllRest b
+pub idle_all_rest : (g : Programs) (b : Board) (w : World) (c : ℕ) → IsPair g b w → is_idle (w.own c) ≡ true → w.running ≡ 0 →
+    NothingToCome w → AllRest b
 idle_all_rest g b w c h idle sum none = all_rest g b w h (idle_rests w c h.world idle sum none)

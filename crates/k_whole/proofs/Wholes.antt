@@ -47,7 +47,8 @@ module _ (script : Script) (limits : IsScript script) where
     owns = λ d l. not_nowhere (b.context (b.size + d)).at Resting (h.owns d l) (λ z. cc);
   }
 
-module _ (script : Script) (limits : IsScript script) (b : Board) (w : World) (es : List Entry) (k : KernelState) (h : WholeHolds script b w es k) where
+module _ (script : Script) (limits : IsScript script) (b : Board) (w : World) (es : List Entry) (k : KernelState)
+    (h : WholeHolds script b w es k) where
   abbrev G : Programs
   G = ranged_programs script
 
@@ -56,7 +57,8 @@ module _ (script : Script) (limits : IsScript script) (b : Board) (w : World) (e
 
   module _ (c : ℕ) (low : c < w.carriers) where
     -- the step is a turn, and the world that it leaves is a pair with the board
-    by_turn : (i : ℕ) (b' : Board) (t : Turn G b i b') (s : Step G b w c b') (step : ThreadStep) → turn_point G b i b' t ≡ step_point G b w c b' s → IsStepOf G b w c b' s step
+    by_turn : (i : ℕ) (b' : Board) (t : Turn G b i b') (s : Step G b w c b') (step : ThreadStep) →
+        turn_point G b i b' t ≡ step_point G b w c b' s → IsStepOf G b w c b' s step
         → IsPair G b' (carrier_step w c step) → OwnsThere b' (carrier_step w c step) → WholeGoesOn script b w es k c b' s
     by_turn i b' t s step e kind pair owns =
         let g = goes_on script limits b es k h.holds i b' t in
@@ -76,23 +78,28 @@ module _ (script : Script) (limits : IsScript script) (b : Board) (w : World) (e
     pub whole_goes_on : (b' : Board) (s : Step G b w c b') → WholeGoesOn script b w es k c b' s
     whole_goes_on b' (runs i _ f asked wait free t) =
         let p = thread_pair G b w h.pair c i b' f asked (told i) wait free t in
-        by_turn i b' t (runs i b' f asked wait free t) p.step refl p.kind p.pair (owns_left b w c p.step h.owns G h.pair i asked b' t)
+        by_turn i b' t (runs i b' f asked wait free t) p.step refl p.kind p.pair
+        (owns_left b w c p.step h.owns G h.pair i asked b' t)
     whole_goes_on _ (switches d s p r asked at going an) =
         by_turn (b.size + d) _ (turn.switches s p r at going an) (switches d s p r asked at going an) FindsTaken refl tt
         (switch_pair G b w h.pair c d FindsTaken low asked s p r at going an (told (b.size + d)))
-        (owns_moved b w c FindsTaken h.owns (switch_board b (b.size + d) (b.context (b.size + d)) s p r) (b.size + d) _ refl refl (λ z. cc))
+        (owns_moved b w c FindsTaken h.owns (switch_board b (b.size + d) (b.context (b.size + d)) s p r) (b.size + d) _ refl refl
+        (λ z. cc))
     whole_goes_on _ (begins_switch s hand took at from) =
         by_turn (b.size + c) _ (turn.begins_switch s at) (begins_switch s hand took at from) FindsTaken refl tt
         (begin_pair G b w h.pair c FindsTaken s low hand took at from (told (b.size + c)))
-        (owns_moved b w c FindsTaken h.owns (placed b (b.size + c) (record (b.context (b.size + c)) { at = InSwitch s switch.AcquireReady })) (b.size + c) _ refl refl (λ z. cc))
+        (owns_moved b w c FindsTaken h.owns (placed b (b.size + c)
+        (record (b.context (b.size + c)) { at = InSwitch s switch.AcquireReady })) (b.size + c) _ refl refl (λ z. cc))
     whole_goes_on _ (ends_switch s o hand at) =
         by_turn (b.size + c) _ (turn.ends_switch s o at) (ends_switch s o hand at) FindsTaken refl tt
         (end_pair G b w h.pair c FindsTaken s o low hand at (told (b.size + c)))
-        (owns_moved b w c FindsTaken h.owns (placed b (b.size + c) (record (b.context (b.size + c)) { at = Resting })) (b.size + c) _ refl refl (λ z. cc))
+        (owns_moved b w c FindsTaken h.owns (placed b (b.size + c) (record (b.context (b.size + c)) { at = Resting }))
+        (b.size + c) _ refl refl (λ z. cc))
     whole_goes_on _ (wakes i hand took inside at) =
         by_turn i _ (turn.wakes at) (wakes i hand took inside at) FindsTaken refl tt
         (wake_pair G b w h.pair c i FindsTaken low hand took inside at (told i))
-        (owns_moved b w c FindsTaken h.owns (placed b i (record (b.context i) { at = Alone location.LookAgain })) i _ refl refl (λ z. cc))
+        (owns_moved b w c FindsTaken h.owns (placed b i (record (b.context i) { at = Alone location.LookAgain })) i _ refl refl
+        (λ z. cc))
     whole_goes_on _ (stays nobody still) = record {
       step = FindsTaken;
       kind = tt;
@@ -100,7 +107,9 @@ module _ (script : Script) (limits : IsScript script) (b : Board) (w : World) (e
       history = refl;
       whole = record {
         holds = subst (λ (l : List Entry). BoardHolds script b l k) (sym (append-nil es)) h.holds;
-        pair = still_pair G b w h.pair (carrier_step w c FindsTaken) (step_good w c FindsTaken h.pair.world low (λ t a. absurd (nobody _ a))) still;
+        pair =
+            still_pair G b w h.pair (carrier_step w c FindsTaken)
+            (step_good w c FindsTaken h.pair.world low (λ t a. absurd (nobody _ a))) still;
         hands = hands_stay w c FindsTaken low h.hands;
         owns = owns_stay b w c FindsTaken h.owns;
       };
@@ -111,7 +120,9 @@ module _ (script : Script) (limits : IsScript script) (b : Board) (w : World) (e
   pub start_stays : (c t : ℕ) → w.unmade t ≡ true → WholeHolds script b (started w c t) es k
   start_stays c t u = record {
     holds = h.holds;
-    pair = still_pair G b w h.pair (started w c t) (started_good w c t h.pair.world u) (record { threads = refl; ready = refl; lists = refl; running = refl; own = refl });
+    pair =
+        still_pair G b w h.pair (started w c t) (started_good w c t h.pair.world u)
+        (record { threads = refl; ready = refl; lists = refl; running = refl; own = refl });
     hands = started_hands w c h.hands t;
     owns = h.owns;
   }
@@ -119,7 +130,9 @@ module _ (script : Script) (limits : IsScript script) (b : Board) (w : World) (e
   pub slice_stays : (c : ℕ) → WholeHolds script b (sliced w c) es k
   slice_stays c = record {
     holds = h.holds;
-    pair = still_pair G b w h.pair (sliced w c) (sliced_good w c h.pair.world) (record { threads = refl; ready = refl; lists = refl; running = refl; own = refl });
+    pair =
+        still_pair G b w h.pair (sliced w c) (sliced_good w c h.pair.world)
+        (record { threads = refl; ready = refl; lists = refl; running = refl; own = refl });
     hands = sliced_hands w c h.hands;
     owns = h.owns;
   }
@@ -127,7 +140,9 @@ module _ (script : Script) (limits : IsScript script) (b : Board) (w : World) (e
   pub park_stays : (c : ℕ) → WholeHolds script b (parked w c) es k
   park_stays c = record {
     holds = h.holds;
-    pair = still_pair G b w h.pair (parked w c) (parked_good w c h.pair.world) (record { threads = refl; ready = refl; lists = refl; running = refl; own = refl });
+    pair =
+        still_pair G b w h.pair (parked w c) (parked_good w c h.pair.world)
+        (record { threads = refl; ready = refl; lists = refl; running = refl; own = refl });
     hands = parked_hands w c h.hands;
     owns = h.owns;
   }

@@ -6,6 +6,7 @@ use Rattle.k_kernel.proofs.laws.a_thread_is_given_the_specifications_reply.Goals
 
 pub returns : goal.returns
 returns c = λ script w h i t r e made doing.
-    let given = c.a_reply_is_the_specifications.ensures script h.board w.history h.state i r h.holds (between_shown script w h i t r e made doing) in
+    let given = c.a_reply_is_the_specifications.ensures script h.board w.history h.state i r h.holds
+    (between_shown script w h i t r e made doing) in
     let serial = serial_shown script w h i t e in
     (given.0 ∙ serial, subst (λ (s : ℕ). reply_to h.state.replies (id_of h.state i) s ≡ Some r) serial given.1)

@@ -7,4 +7,5 @@ pub returns-clause-order : goal.returns-clause-order
 returns-clause-order c = λ script carriers turns roomy k. run_lawful script carriers roomy turns k
 
 pub returns-clause-once : goal.returns-clause-once
-returns-clause-once c = λ script carriers turns roomy k. lawful_once (run_of script carriers turns).steps (run_lawful script carriers roomy turns k)
+returns-clause-once c =
+    λ script carriers turns roomy k. lawful_once (run_of script carriers turns).steps (run_lawful script carriers roomy turns k)

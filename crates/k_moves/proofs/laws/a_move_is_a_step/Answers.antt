@@ -1,4 +1,5 @@
-use Rattle.k_moves.proofs.Sums.{give_sum, look_sum, park_sum, replaced_sum, slice_sum, start_sum, switch_sum, take_sum, thread_sum}
+use Rattle.k_moves.proofs.Sums.{give_sum, look_sum, park_sum, replaced_sum, slice_sum}
+use Rattle.k_moves.proofs.Sums.{start_sum, switch_sum, take_sum, thread_sum}
 use Rattle.k_moves.proofs.laws.a_move_is_a_step.Goals as goal
 
 pub returns-clause-look : goal.returns-clause-look

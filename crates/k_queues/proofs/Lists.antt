@@ -15,16 +15,6 @@ use Rattle.k_senders.specs.declared.entries.SenderEntry.{SenderEntry}
 use Rattle.k_senders.specs.Entries.{entry_for, sender_of}
 use Rattle.k_senders.specs.Queue.{without}
 use Rattle.k_locks.specs.declared.points.Point.{Point}
-use Rattle.k_ipc.specs.SendTable as send
-use Rattle.k_ipc.specs.ReceiveTable as receive
-use Rattle.k_threads.specs.CreateTable as create
-use Rattle.k_threads.specs.DestroyTable as destroy
-use Rattle.k_caller.specs.Waits as alone
-use Rattle.k_board.specs.Words.{Programs}
-use Rattle.k_board.specs.Boards.{Board, hand_of, id_at}
-use Rattle.k_board.specs.Steps.{destroy_number}
-use Rattle.k_board.specs.Turns.{Turn, begins, begins_switch, creates, destroys, ends_switch}
-use Rattle.k_board.specs.Turns.{goes_alone, receives, sends, switches, turns_to_work, wakes}
 
 -- who begins to wait comes last
 abbrev pub queued : (ℕ → List SenderEntry) → ThreadId → ThreadId → Message → ℕ → List SenderEntry
@@ -56,17 +46,3 @@ outcome_noted f me a o = f
 abbrev pub lists_after : Option Point → (ℕ → List SenderEntry) → ℕ → List SenderEntry
 lists_after None f = f
 lists_after (Some p) f = outcome_noted f p.who p.act p.outcome
-
--- The point of a turn, if it has one: that of the section, or of the thread outside of any. A switch has none.
-abbrev pub point_of : (g : Programs) (b : Board) (i : ℕ) (b' : Board) → Turn g b i b' → Option Point
-point_of g b i _ (sends c p r at an) = send.points c (b.seen i).word (hand_of b (b.queue c.to.number)) p r
-point_of g b i _ (receives c p r at an) = receive.points c (b.seen i).word (hand_of b (b.queue i)) p r
-point_of g b i _ (creates c p r at an) = create.points c (b.seen i).word (hand_of b []) p r
-point_of g b i _ (destroys c p r at an) = destroy.points c (b.seen i).word (hand_of b (b.queue (destroy_number c p))) p r
-point_of g b i _ (goes_alone p r at can an) = alone.points (id_at b i) p r
-point_of g b i _ (begins l f at e) = None
-point_of g b i _ (turns_to_work l count at e) = None
-point_of g b i _ (wakes at) = None
-point_of g b i _ (switches c p r at going an) = None
-point_of g b i _ (begins_switch c at) = None
-point_of g b i _ (ends_switch c s at) = None

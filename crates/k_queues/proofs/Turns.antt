@@ -41,7 +41,7 @@ use Rattle.k_queues.specs.Queues.{CallsUnanswered, QueuesHold, Reason, by_free, 
 use Rattle.k_queues.proofs.Creates.{create_moves}
 use Rattle.k_queues.proofs.Destroys.{destroy_moves}
 use Rattle.k_queues.proofs.Entries.{all_wait, dead_silent, none_some, some_is, true_false}
-use Rattle.k_queues.proofs.Lists.{point_of}
+use Rattle.k_points.specs.Points.{turn_point}
 use Rattle.k_queues.proofs.StepKinds.{IsPlain, Move, move_keeps, stays}
 use Rattle.k_queues.proofs.Moves.{idle_comes, idle_takes}
 use Rattle.k_queues.proofs.Quiet.{same_wait}
@@ -114,7 +114,7 @@ module _ (g : Programs) (b : Board) (good : IsGood g b) (w : IsWithin b) (h : Qu
       subst (λ (id : ThreadId). IsInRange b.size id) (λ d. record { number = sym m.0 d; version = sym m.1 d }) (w.threads i t)
 
   -- of which kind a turn is
-  pub turn_moves : (i : ℕ) (b' : Board) (t : Turn g b i b') → Move b b' i (point_of g b i b' t)
+  pub turn_moves : (i : ℕ) (b' : Board) (t : Turn g b i b') → Move b b' i (turn_point g b i b' t)
   turn_moves i _ (sends c p r at an) =
       send_moves g b i h says good.outward c (me_in i c.caller (send_caller g b i (b.context i) c p (facts_at i (InSend c p) at))
       (ap is_threads at)) (target_at i (InSend c p) at) p r at an (facts_at i (InSend c p) at)
@@ -149,7 +149,7 @@ module _ (g : Programs) (b : Board) (good : IsGood g b) (w : IsWithin b) (h : Qu
       at_rest i (record (b.context i) { at = Resting }) (InSwitch c (switch.Finished s)) at refl refl
 
   pub turn_keeps_queues : (i : ℕ) (b' : Board) → Turn g b i b' → QueuesHold b'
-  turn_keeps_queues i b' t = move_keeps b b' i (point_of g b i b' t) (turn_size g b i b' t) h says (turn_moves i b' t)
+  turn_keeps_queues i b' t = move_keeps b b' i (turn_point g b i b' t) (turn_size g b i b' t) h says (turn_moves i b' t)
 
   -- WHAT THE QUEUES TELL
 

@@ -1,9 +1,10 @@
 -- A carrier's look at a context, and its give of one: the world after it shows the same board, but for the end of a switch.
 use Rattle.std.proofs.Common.{◌≡◌, ℕ, ◌≤◌, ◌==◌, Bool, true, false, refl, sym, ap, ◌∙◌, subst, Option, Some, None, arith}
-use Rattle.std.specs.Prelude.{if◌then◌else◌}
+use Rattle.std.specs.Prelude.{if◌then◌else◌, []}
 use Rattle.k_ids.specs.declared.context_word.ContextWord.{ContextWord}
 use Rattle.k_ids.specs.declared.context_word.ContextWord.TheVariants.{Clean, Empty, Holds, Taken}
 use Rattle.k_ids.specs.ContextWords.{IsContextWord, IsVersion, context_bits, context_word_of}
+use Rattle.k_ids.specs.declared.histories.Entry.{Entry}
 use Rattle.k_model.specs.Maps.{upd}
 use Rattle.k_model.proofs.Maps.{upd_same}
 use Rattle.k_script.specs.Script.{Script}
@@ -24,7 +25,7 @@ use Rattle.k_carrier.specs.Resumed.{after_look, heard, is_holding, resumed, seen
 use Rattle.k_carrier.specs.Rules.{begins, gives, is_own, readied, target_of}
 use Rattle.k_carrier.specs.Seen.{CarrierSeen, HandSeen}
 use Rattle.k_world.specs.Moves.{found_by}
-use Rattle.k_world.specs.Steps.{carrier_after, moved, parked, sliced, started, step_in}
+use Rattle.k_world.specs.Steps.{carrier_after, entry_of, moved, parked, recorded, sliced, started, step_in}
 use Rattle.k_world.specs.Worlds.{World, Resting as Lying, carrier_at}
 use Rattle.k_world.proofs.Worlds.{sized_parked, sized_sliced, sized_started}
 use Rattle.k_board.specs.Boards.{Board, InSwitch, Resting}
@@ -34,7 +35,7 @@ use Rattle.k_places.specs.Contexts.{ShowsContext, programs_of, switch_at}
 use Rattle.k_places.specs.Fits.{IsStepWithin}
 use Rattle.k_places.specs.Memory.{Memory, memory_of}
 use Rattle.k_joint.specs.Runs.{ShowsLater}
-use Rattle.k_turns.specs.Sections.{Turns, more, none}
+use Rattle.k_turns.specs.Sections.{Turns, entries_along, more, none}
 use Rattle.k_places.specs.Shows.{Shows, ShowsBoard}
 use Rattle.k_places.proofs.Held.{held_shown, with_hand}
 use Rattle.k_places.proofs.Places.{held_is, version_held}
@@ -121,10 +122,10 @@ looked_hand k (GoalOf g) w bits = by (version_in w == g.id.version)
     by true = seen_hand k w bits
     by false = refl
 
-looked_after : (k : CarrierSeen) (bits : ℕ) → (resumed k (answer.Looked bits)).hand ≡ k.hand
+pub looked_after : (k : CarrierSeen) (bits : ℕ) → (resumed k (answer.Looked bits)).hand ≡ k.hand
 looked_after k bits = looked_hand (heard k) (target_of k) (context_word_of bits) bits
 
-given_hand : (k : CarrierSeen) (s : Option Switched) → (switched_to k s).hand ≡ k.hand
+pub given_hand : (k : CarrierSeen) (s : Option Switched) → (switched_to k s).hand ≡ k.hand
 given_hand k None = refl
 given_hand k (Some s) = refl
 
@@ -155,10 +156,19 @@ module _ (script : Script) (w : World) (c : ℕ) (b : Board) (sh : ShowsBoard sc
   unfolding moved step_in
   maps_asked a e = maps_moved script w (step_in script c w) within ∙ ap (MapsWith script w c) e
 
-  -- the board is another, some turns later
-  pub later : (i n : ℕ) → n ≤ 2 → (b' : Board) → Turns (programs_of script) i n b b' → (a : CarrierAsk) → ask_of K ≡ a →
-      Shows script (MapsWith script w c a) b' → ShowsLater script b i (moved script c w)
-  later i n few b' turns a e shows = record {
+  -- the board that the world shows after the move, whose context is this
+  abbrev pub Later : ℕ → Type 0
+  Later i = ShowsLater script b i (entry_of w (step_in script c w)) (moved script c w)
+
+  pub entry_asked : (a : CarrierAsk) → ask_of K ≡ a → entry_of w (step_in script c w) ≡ entry_of w (StepWith script w c a)
+  unfolding step_in
+  entry_asked a e = ap (λ (z : CarrierAsk). entry_of w (StepWith script w c z)) e
+
+  -- the board is another, some turns later, which have no points
+  pub later : (i n : ℕ) → n ≤ 2 → (b' : Board) → (turns : Turns (programs_of script) i n b b') →
+      entries_along (programs_of script) i n b b' turns ≡ [] → (a : CarrierAsk) → ask_of K ≡ a →
+      entry_of w (StepWith script w c a) ≡ None → Shows script (MapsWith script w c a) b' → Later i
+  later i n few b' turns silent a e quiet shows = record {
     count = n;
     few = few;
     board = b';
@@ -167,13 +177,14 @@ module _ (script : Script) (w : World) (c : ℕ) (b : Board) (sh : ShowsBoard sc
       whole = whole_moved script w c sh.whole;
       shows = subst (λ (m : Memory). Shows script m b') (sym (maps_asked a e)) shows;
     };
+    entries = silent ∙ ap (λ (o : Option Entry). recorded o []) (sym (entry_asked a e ∙ quiet));
   }
 
   -- A LOOK
 
-  pub look_shown : (n i : ℕ) → ask_of K ≡ LookAt n → ShowsLater script b i (moved script c w)
+  pub look_shown : (n i : ℕ) → ask_of K ≡ LookAt n → Later i
   look_shown n i e =
-      later i 0 (omega arith) b (none b) (LookAt n) e (subst
+      later i 0 (omega arith) b (none b) refl (LookAt n) e refl (subst
       (λ (h : Option HandSeen). Shows script (with_places M (upd M.context n (M.context n)) M.slot (upd M.hand c h)) b)
       (sym empty) (nothing_changed script M b c n sh.shows (hand_is w c ∙ look_empty K n e)))
     where
@@ -207,17 +218,17 @@ module _ (script : Script) (w : World) (c : ℕ) (b : Board) (sh : ShowsBoard sc
         ap (λ (o : Option HandSeen). with_places M (upd M.context N (context_bits (resting_word h.value)))
         (upd M.slot N (Lying (rested (is_own K h) h.value))) (upd M.hand c o)) (sym empty_after)
 
-    as_it_is : rested (is_own K h) h.value ≡ h.value → ShowsLater script b N (moved script c w)
+    as_it_is : rested (is_own K h) h.value ≡ h.value → Later N
     as_it_is same =
-        later N 0 (omega arith) b (none b) (PutDown h) e (subst (λ (m : Memory). Shows script m b)
+        later N 0 (omega arith) b (none b) refl (PutDown h) e refl (subst (λ (m : Memory). Shows script m b)
         (ap Given (sym same) ∙ maps_given) (given_shown script M b c N h.value sh.shows was version))
 
     -- a switch that is finished ends
     ends : (z : CarrierContext) (q : Switch) (d : Switched) → h.value ≡ Carrier z → z.switch ≡ Some q →
         q.location ≡ location.Finished d → rested (is_own K h) h.value ≡ without_switch h.value →
-        ShowsLater script b N (moved script c w)
+        Later N
     ends z q d is on over same =
-        later N 1 (omega arith) After (more b After After (ends_switch q.call d at) (none After)) (PutDown h) e
+        later N 1 (omega arith) After (more b After After (ends_switch q.call d at) (none After)) refl (PutDown h) e refl
         (subst (λ (m : Memory). Shows script m After) (maps_same ∙ maps_given)
         (given_shown script (with_hand M c (Some H2)) After c N V2 held (upd_same M.hand c (Some H2)) version2))
       where
@@ -266,7 +277,7 @@ module _ (script : Script) (w : World) (c : ℕ) (b : Board) (sh : ShowsBoard sc
             (upd M.slot N (Lying ((ap without_switch (sym is) ∙ sym same) x))) (upd_twice M.hand c (Some H2) None x)
 
     -- by what it is
-    by_own : (o : Bool) → is_own K h ≡ o → (v : ContextSeen) → h.value ≡ v → ShowsLater script b N (moved script c w)
+    by_own : (o : Bool) → is_own K h ≡ o → (v : ContextSeen) → h.value ≡ v → Later N
     by_own false o v is = as_it_is (ap (λ (t : Bool). rested t h.value) o)
     by_own true o (Thread t) is = as_it_is ((λ x. rested (o x) (is x)) ∙ sym is)
     by_own true o (Carrier z) is = by_switch z.switch refl
@@ -274,19 +285,19 @@ module _ (script : Script) (w : World) (c : ℕ) (b : Board) (sh : ShowsBoard sc
         rested_is : rested (is_own K h) h.value ≡ rested true (Carrier z)
         rested_is = λ x. rested (o x) (is x)
 
-        going : (q : Switch) → z.switch ≡ Some q → switch.switched_at q.location ≡ None → ShowsLater script b N (moved script c w)
+        going : (q : Switch) → z.switch ≡ Some q → switch.switched_at q.location ≡ None → Later N
         going q on none_yet = as_it_is (rested_is ∙ rw on (rw none_yet refl) ∙ sym is)
 
-        by_switch : (s : Option Switch) → z.switch ≡ s → ShowsLater script b N (moved script c w)
+        by_switch : (s : Option Switch) → z.switch ≡ s → Later N
         by_switch None on = as_it_is (rested_is ∙ rw on refl ∙ sym is)
         by_switch (Some q) on = by_location q.location refl
           where
-            by_location : (l : SwitchLocation) → q.location ≡ l → ShowsLater script b N (moved script c w)
+            by_location : (l : SwitchLocation) → q.location ≡ l → Later N
             by_location (location.Finished d) over =
                 ends z q d is on over (rested_is ∙ rw on (rw over refl) ∙ ap without_switch (sym is))
             by_location location.AcquireReady over = going q on (ap switch.switched_at over)
             by_location (location.Locked p lists) over = going q on (ap switch.switched_at over)
             by_location (location.ListsReturned p) over = going q on (ap switch.switched_at over)
 
-    pub give_shown : ShowsLater script b N (moved script c w)
+    pub give_shown : Later N
     give_shown = by_own (is_own K h) refl h.value refl

@@ -32,7 +32,7 @@ use Rattle.k_carrier.specs.Resumed.{after_take, heard, point_of, resumed, switch
 use Rattle.k_carrier.specs.Rules.{begins, context_at, gives, readied, target_of}
 use Rattle.k_carrier.specs.Seen.{CarrierSeen, HandSeen}
 use Rattle.k_world.specs.Moves.{took}
-use Rattle.k_world.specs.Steps.{caller_in, entry_by, moved, step_in}
+use Rattle.k_world.specs.Steps.{caller_in, entry_by, entry_of, step_in}
 use Rattle.k_world.specs.Worlds.{Slot, World, Away, Guarded, Resting as Lying, carrier_at, resting_in}
 use Rattle.k_board.specs.Boards.{Alone, Board, Context, InSwitch, Resting}
 use Rattle.k_board.specs.Steps.{placed}
@@ -41,20 +41,19 @@ use Rattle.k_places.specs.Contexts.{IsShown, ShowsContext, at_in, switch_at, thr
 use Rattle.k_places.specs.Fits.{IsStepWithin}
 use Rattle.k_places.specs.Memory.{Memory, Place, Same, at, memory_of, memory_with, serials_with}
 use Rattle.k_joint.specs.Ready.{IsTaking}
-use Rattle.k_joint.specs.Runs.{ShowsLater}
 use Rattle.k_turns.specs.Sections.{more, none}
 use Rattle.k_places.specs.Shows.{Rests, Shows, ShowsBoard, Stands, context_by, context_in}
-use Rattle.k_joint.proofs.Carried.{later, not_held, readied_hand}
+use Rattle.k_joint.proofs.Carried.{Later, later, not_held, readied_hand}
 use Rattle.k_places.proofs.Held.{held_shown, with_hand}
 use Rattle.k_places.proofs.Places.{version_held}
-use Rattle.k_joint.proofs.Runs.{MapsWith, hand_is}
+use Rattle.k_joint.proofs.Runs.{MapsWith, StepWith, hand_is}
 use Rattle.k_joint.proofs.Sections.{upd_twice}
 use Rattle.k_places.proofs.Takes.{nothing_changed, taken_shown, with_places}
 
 -- WHAT IS TAKEN
 
 -- what comes into the hand, of the context that was there
-abbrev value_taken : CarrierSeen → Target → ContextSeen → ContextSeen
+abbrev pub value_taken : CarrierSeen → Target → ContextSeen → ContextSeen
 value_taken k (Helped n) v = v
 value_taken k Own v = if has_switch v then v else with_switch (switch_call k) v
 value_taken k (GoalOf g) v = woken v
@@ -70,7 +69,7 @@ take_hand k (GoalOf g) v = refl
 
 -- THE CARRIER
 
-take_empty : (k : CarrierSeen) (n s : ℕ) → ask_of k ≡ Take n s → k.hand ≡ None
+pub take_empty : (k : CarrierSeen) (n s : ℕ) → ask_of k ≡ Take n s → k.hand ≡ None
 take_empty k n s e = by k.hand refl e
   where
     by : (o : Option HandSeen) → k.hand ≡ o → ask_with k o ≡ Take n s → k.hand ≡ None
@@ -113,7 +112,7 @@ module _ (script : Script) (w : World) (c : ℕ) (b : Board) (sh : ShowsBoard sc
   M = memory_of w
 
   -- as it was asked
-  abbrev Asks : CarrierSeen
+  abbrev pub Asks : CarrierSeen
   Asks = asked_by script K (Take n s)
 
   abbrev New : ℕ
@@ -149,14 +148,18 @@ module _ (script : Script) (w : World) (c : ℕ) (b : Board) (sh : ShowsBoard sc
   maps_take : MapsWith script w c (Take n s) ≡ Maps (M.context n == s) (M.slot n)
   maps_take = maps_noted ∙ ap MapsNoted (no_point (M.context n == s) (M.slot n))
 
+  quiet : entry_of w (StepWith script w c (Take n s)) ≡ None
+  unfolding at
+  quiet = ap (entry_by w) (no_point (M.context n == s) (M.slot n))
+
   empty : M.hand c ≡ None
   empty = hand_is w c ∙ take_empty K n s e
 
   -- A TAKE IN VAIN
 
-  lost : (M.context n == s) ≡ false → ShowsLater script b n (moved script c w)
+  lost : (M.context n == s) ≡ false → Later script w c b sh within n
   lost q =
-      later script w c b sh within n 0 (omega arith) b (none b) (Take n s) e
+      later script w c b sh within n 0 (omega arith) b (none b) refl (Take n s) e quiet
       (subst (λ (m : Memory). Shows script m b) (back ∙ sym (maps_take ∙ ap (λ t. Maps t (M.slot n)) q))
       (nothing_changed script M b c n sh.shows empty))
     where
@@ -171,13 +174,13 @@ module _ (script : Script) (w : World) (c : ℕ) (b : Board) (sh : ShowsBoard sc
   Word = context_word_of (M.context n)
 
   -- the carrier, and the context that it takes
-  abbrev Heard : CarrierSeen
+  abbrev pub Heard : CarrierSeen
   Heard = heard Asks
 
-  abbrev Aim : Target
+  abbrev pub Aim : Target
   Aim = target_of Asks
 
-  aims : context_at Heard Aim ≡ n
+  pub aims : context_at Heard Aim ≡ n
   aims = take_place (readied K) n s (readied K).looked (take_asks K n s e)
 
   looked : IsContextSpelling s × IsResting (context_word_of s)
@@ -223,7 +226,7 @@ module _ (script : Script) (w : World) (c : ℕ) (b : Board) (sh : ShowsBoard sc
     there_by (Taken d x) q r st = absurd r
     there_by Empty q r st = absurd r
 
-    there : (v : ContextSeen) × IsThere v
+    pub there : (v : ContextSeen) × IsThere v
     there = there_by Word refl (subst IsResting (ap context_word_of (sym found)) looked.1) (sh.shows.places.stands n)
 
     module _ (v : ContextSeen) (h : IsThere v) where
@@ -239,7 +242,7 @@ module _ (script : Script) (w : World) (c : ℕ) (b : Board) (sh : ShowsBoard sc
       new_is : New ≡ context_bits (Taken c (version_held (Has v)))
       new_is = λ d. context_bits (Taken (sound.number d) ((ap (λ z. version_in (context_word_of z)) (sym found) ∙ h.version) d))
 
-      hand_then : (resumed Asks (took (M.context n) (M.slot n))).hand ≡ Some (Has (value_taken Heard Aim v))
+      pub hand_then : (resumed Asks (took (M.context n) (M.slot n))).hand ≡ Some (Has (value_taken Heard Aim v))
       hand_then =
           ap (λ (z : Slot). (resumed Asks (took (M.context n) z)).hand) h.slot ∙ take_hand Heard Aim v
           ∙ ap (λ (x : ℕ). Some (record { context = x; value = value_taken Heard Aim v })) aims
@@ -259,17 +262,17 @@ module _ (script : Script) (w : World) (c : ℕ) (b : Board) (sh : ShowsBoard sc
       maps_are u q = sym (maps_take ∙ ap (λ t. Maps t (M.slot n)) won ∙ maps_won ∙ ap Final q)
 
       -- as it lay there
-      as_it_is : value_taken Heard Aim v ≡ v → ShowsLater script b n (moved script c w)
+      as_it_is : value_taken Heard Aim v ≡ v → Later script w c b sh within n
       as_it_is q =
-          later script w c b sh within n 0 (omega arith) b (none b) (Take n s) e
+          later script w c b sh within n 0 (omega arith) b (none b) refl (Take n s) e quiet
           (subst (λ (m : Memory). Shows script m b) (maps_are v q) first)
 
       -- a switch begins
       switched : (z : CarrierContext) (call : SwitchCall) → v ≡ Carrier z → z.switch ≡ None →
-          value_taken Heard Aim v ≡ Carrier (carriers.with_switch call z) → ShowsLater script b n (moved script c w)
+          value_taken Heard Aim v ≡ Carrier (carriers.with_switch call z) → Later script w c b sh within n
       switched z call is idle q =
-          later script w c b sh within n 1 (omega arith) After (more b After After (begins_switch call at_rest) (none After))
-          (Take n s) e (subst (λ (m : Memory). Shows script m After)
+          later script w c b sh within n 1 (omega arith) After (more b After After (begins_switch call at_rest) (none After)) refl
+          (Take n s) e quiet (subst (λ (m : Memory). Shows script m After)
           (ap (λ (x : ℕ → Option HandSeen). record (Final v) { hand = x }) (upd_twice M.hand c (Some (Has v)) (Some (Has U)))
           ∙ maps_are U q) next)
         where
@@ -294,9 +297,9 @@ module _ (script : Script) (w : World) (c : ℕ) (b : Board) (sh : ShowsBoard sc
       -- a thread wakes
       wakes_up : (t : ThreadSeen) → v ≡ Thread t → t.activity ≡ activity.Alone location.Asleep →
           value_taken Heard Aim v ≡ Thread (record t { activity = activity.Alone location.LookAgain }) →
-          ShowsLater script b n (moved script c w)
+          Later script w c b sh within n
       wakes_up t is asleep q =
-          later script w c b sh within n 1 (omega arith) After (more b After After (wakes at_asleep) (none After)) (Take n s) e
+          later script w c b sh within n 1 (omega arith) After (more b After After (wakes at_asleep) (none After)) refl (Take n s) e quiet
           (subst (λ (m : Memory). Shows script m After) (ap (λ (x : ℕ → Option HandSeen). record (Final v) { hand = x })
           (upd_twice M.hand c (Some (Has v)) (Some (Has U))) ∙ maps_are U q) next)
         where
@@ -361,12 +364,12 @@ module _ (script : Script) (w : World) (c : ℕ) (b : Board) (sh : ShowsBoard sc
       asleep_is (activity.Create x) q = absurd cc
       asleep_is (activity.Destroy x) q = absurd cc
 
-      taking : (a : Target) → Aim ≡ a → (u : ContextSeen) → v ≡ u → ShowsLater script b n (moved script c w)
+      taking : (a : Target) → Aim ≡ a → (u : ContextSeen) → v ≡ u → Later script w c b sh within n
       taking (Helped x) q u is = as_it_is (ap (λ y. value_taken Heard y v) q)
       taking Own q (Thread t) is = as_it_is ((λ d. value_taken Heard (q d) (is d)) ∙ sym is)
       taking Own q (Carrier z) is = by z.switch refl
         where
-          by : (o : Option Switch) → z.switch ≡ o → ShowsLater script b n (moved script c w)
+          by : (o : Option Switch) → z.switch ≡ o → Later script w c b sh within n
           by None on = switched z (switch_call Heard) is on ((λ d. value_taken Heard (q d) (is d)) ∙ rw on refl)
           by (Some x) on = as_it_is ((λ d. value_taken Heard (q d) (is d)) ∙ rw on refl ∙ sym is)
       taking (GoalOf g) q (Carrier z) is = as_it_is ((λ d. value_taken Heard (q d) (is d)) ∙ sym is)
@@ -375,8 +378,8 @@ module _ (script : Script) (w : World) (c : ℕ) (b : Board) (sh : ShowsBoard sc
         | inr y ↦ as_it_is ((λ d. value_taken Heard (q d) (is d)) ∙ rw y refl ∙ sym is)
       ]
 
-    won_shown : ShowsLater script b n (moved script c w)
+    won_shown : Later script w c b sh within n
     won_shown = taking there.0 there.1 Aim refl there.0 refl
 
-  pub take_shown : ShowsLater script b n (moved script c w)
+  pub take_shown : Later script w c b sh within n
   take_shown = elim (cases_Bool (M.context n == s)) [ inl q ↦ won_shown q | inr q ↦ lost q ]

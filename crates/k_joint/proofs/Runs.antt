@@ -1,6 +1,7 @@
 -- A carrier that makes a step of the context in its hand: the world after it shows the board after the turn.
 use Rattle.std.proofs.Common.{◌≡◌, ℕ, Bool, true, false, refl, sym, ap, ◌∙◌, subst, Option, Some, None}
-use Rattle.std.specs.Prelude.{if◌then◌else◌}
+use Rattle.std.specs.Prelude.{if◌then◌else◌, []}
+use Rattle.k_ids.specs.declared.histories.Entry.{Entry}
 use Rattle.k_ids.specs.StateWords.{state_word_of}
 use Rattle.k_locks.specs.declared.locks.WordName.TheVariants as word
 use Rattle.k_locks.specs.declared.points.Point.{Point}
@@ -14,7 +15,7 @@ use Rattle.k_carrier.specs.Moves.{Section}
 use Rattle.k_carrier.specs.Rules.{gives, readied}
 use Rattle.k_carrier.specs.Seen.{CarrierSeen, HandSeen}
 use Rattle.k_world.specs.Moves.{goods_for}
-use Rattle.k_world.specs.Steps.{CarrierStep, carrier_after, entry_by, entry_of, moved, running, step_in, step_with}
+use Rattle.k_world.specs.Steps.{CarrierStep, carrier_after, entry_by, entry_of, moved, recorded, running, step_in, step_with}
 use Rattle.k_world.specs.Worlds.{World, carrier_at, word_at}
 use Rattle.k_world.proofs.Worlds.{sized_moved}
 use Rattle.k_board.specs.Boards.{Board}
@@ -22,7 +23,7 @@ use Rattle.k_places.specs.Fits.{IsStepWithin}
 use Rattle.k_places.specs.Memory.{Memory, at, memory_of, moved_maps}
 use Rattle.k_joint.specs.Ready.{IsReady}
 use Rattle.k_joint.specs.Runs.{ShowsLater}
-use Rattle.k_turns.specs.Sections.{section_maps}
+use Rattle.k_turns.specs.Sections.{section_entry, section_maps}
 use Rattle.k_places.specs.Answers.{answer_in, entry_in, goods_found}
 use Rattle.k_places.specs.Shows.{IsWhole, Shows, ShowsBoard}
 use Rattle.k_places.proofs.Raw.{maps_moved, word_is}
@@ -47,7 +48,7 @@ hand_of_run k h e = by k.hand refl e
 
 -- WHAT THE STEP FINDS
 
-goods_is : (w : World) (s : Step) → goods_for w s ≡ goods_found (memory_of w) s
+pub goods_is : (w : World) (s : Step) → goods_for w s ≡ goods_found (memory_of w) s
 unfolding at
 goods_is w (step.Acquire l) = refl
 goods_is w (step.Release l g) = refl
@@ -96,6 +97,21 @@ module _ (script : Script) (w : World) (c : ℕ) where
   unfolding moved step_in
   maps_run h e within = maps_moved script w (step_in script c w) within ∙ ap MapsWith e ∙ run_maps h
 
+  -- the entry that it makes
+  run_entry : (h : HandSeen) → entry_of w (StepWith (Run h)) ≡ section_entry (memory_of w) h.context (begun script h.value)
+  run_entry h =
+      let m = memory_of w in
+      let v = begun script h.value in
+      let s = step_of v in
+      let answers : answer_of s (word_at w (word_of s)) (goods_for w s) ≡ answer_in m s =
+      λ d. answer_of s (word_is w (word_of s) d) (goods_is w s d) in
+      (λ d. entry_is w (points (context_asked v) (state_word_of (word_is w (word.State h.context) d)) (answers d)) d)
+
+  pub entry_run : (h : HandSeen) → ask_of K ≡ Run h →
+      entry_of w (step_in script c w) ≡ section_entry (memory_of w) h.context (begun script h.value)
+  unfolding step_in
+  entry_run h e = ap (λ (a : CarrierAsk). entry_of w (StepWith a)) e ∙ run_entry h
+
   pub whole_moved : IsWhole script w → IsWhole script (moved script c w)
   whole_moved h =
       let s = sized_moved script c w in record {
@@ -105,7 +121,7 @@ module _ (script : Script) (w : World) (c : ℕ) where
       }
 
   pub section_shown : (b : Board) (h : HandSeen) → ShowsBoard script w b → ask_of K ≡ Run h → IsReady script b h.context h.value →
-      IsStepWithin w (step_in script c w) → ShowsLater script b h.context (moved script c w)
+      IsStepWithin w (step_in script c w) → ShowsLater script b h.context (entry_of w (step_in script c w)) (moved script c w)
   section_shown b h sh e ready within =
       let soon = section_comes script (memory_of w) b c h sh.shows (hand_is w c ∙ hand_of_run K h e) ready in
       let comes = soon.comes in
@@ -119,4 +135,5 @@ module _ (script : Script) (w : World) (c : ℕ) where
           shows =
               subst (λ (m : Memory). Shows script m comes.board) (sym (maps_run h e within)) comes.shows;
         };
+        entries = comes.entries ∙ ap (λ (o : Option Entry). recorded o []) (sym (entry_run h e));
       }

@@ -1,10 +1,11 @@
 -- The step of the context in a carrier's hand comes to one turn of the board, or to two where the context begins its next call.
 use Rattle.std.proofs.Common.{◌≡◌, ℕ, ◌<◌, ◌==◌, true, false, refl, sym, ap, ◌∙◌, subst, Option, Some, None, arith, inl, inr}
-use Rattle.std.specs.Prelude.{◌-◌, ◌^◌}
+use Rattle.std.specs.Prelude.{◌-◌, ◌^◌, [], ◌++◌}
 use Rattle.std.proofs.lemmas.Bool.{eqb-true}
 use Rattle.std.proofs.lemmas.Bool.Decides.{eqb_tells}
 use Rattle.k_ids.specs.declared.calls.Phase.TheVariants as phase
 use Rattle.k_ids.specs.declared.calls.Reply.{Reply}
+use Rattle.k_ids.specs.declared.histories.Entry.{Entry}
 use Rattle.k_ids.specs.declared.threads.ThreadId.{ThreadId}
 use Rattle.k_ids.specs.StateWords.{state_word_of}
 use Rattle.k_locks.specs.declared.goods.Goods.{Goods}
@@ -32,14 +33,16 @@ use Rattle.k_switch.specs.Carriers as carriers
 use Rattle.k_switch.specs.Switches as switch
 use Rattle.k_context.specs.Contexts.{ContextSeen, Thread, Carrier, asked, begun, can_ask, points, resumed, step_of}
 use Rattle.k_carrier.specs.Seen.{HandSeen}
+use Rattle.k_world.specs.Steps.{recorded}
 use Rattle.k_board.specs.Boards.{Alone, Board, Coming, Context, InSwitch, id_at}
 use Rattle.k_good.specs.Locks.{locks_at}
+use Rattle.k_legal.specs.Runs.{entries_of}
 use Rattle.k_places.specs.Contexts.{IsShown, ShowsContext, at_in, held_on, programs_of, switch_at, switch_hand}
 use Rattle.k_places.specs.Memory.{Filling, Memory, filling_by, memory_with, serials_with, word_in}
 use Rattle.k_places.specs.Asks.{IsAskFit}
 use Rattle.k_joint.specs.Ready.{IsReady}
 use Rattle.k_turns.specs.Spelled.{IsSpelled, ask_at, ask_in, ask_of_switch}
-use Rattle.k_turns.specs.Sections.{Comes, context_after, more, section_maps}
+use Rattle.k_turns.specs.Sections.{Comes, context_after, more, section_entry, section_maps}
 use Rattle.k_joint.specs.Runs.{ComesSoon}
 use Rattle.k_places.specs.Answers.{entry_in, goods_found}
 use Rattle.k_places.specs.Shows.{Shows, context_in}
@@ -62,13 +65,13 @@ upd_twice f n v w = λ d u. point f n v w u d
 
 -- WHAT WAS IN THE HAND BEFORE doesn't matter to a step
 
-word_same : (m : Memory) (hs : ℕ → Option HandSeen) (name : WordName) → word_in (record m { hand = hs }) name ≡ word_in m name
+pub word_same : (m : Memory) (hs : ℕ → Option HandSeen) (name : WordName) → word_in (record m { hand = hs }) name ≡ word_in m name
 word_same m hs (word.State n) = refl
 word_same m hs (word.Mail n) = refl
 word_same m hs (word.Lock l) = refl
 word_same m hs (word.Context n) = refl
 
-goods_same : (m : Memory) (hs : ℕ → Option HandSeen) (s : Step) → goods_found (record m { hand = hs }) s ≡ goods_found m s
+pub goods_same : (m : Memory) (hs : ℕ → Option HandSeen) (s : Step) → goods_found (record m { hand = hs }) s ≡ goods_found m s
 goods_same m hs (step.Acquire l) = refl
 goods_same m hs (step.Release l g) = refl
 goods_same m hs (step.Load name) = refl
@@ -92,7 +95,7 @@ module _ (script : Script) (m : Memory) (c i : ℕ) (h : Option HandSeen) (v : C
       (serials_with (entry_in mem.serial (points (asked v) (state_word_of (mem.state i))
       (answer_of (step_of v) found g))) mem.serial)
 
-  same_maps : section_maps script (with_hand m c h) c i v ≡ section_maps script m c i v
+  pub same_maps : section_maps script (with_hand m c h) c i v ≡ section_maps script m c i v
   same_maps =
       let found = word_in m (word_of (step_of v)) in
       let g = goods_found m (step_of v) in
@@ -101,6 +104,11 @@ module _ (script : Script) (m : Memory) (c i : ℕ) (h : Option HandSeen) (v : C
       ∙ with_same m (upd m.hand c h) (word_of (step_of v)) (becomes i (step_of v) found) (filling_by script (step_of v) found) _ _
       ∙ ap (λ (z : ℕ → Option HandSeen). record (section_maps script m c i v) { hand = z })
       (upd_twice m.hand c h (Some (record { context = i; value = context_after m v })))
+
+  pub same_entry : section_entry (with_hand m c h) i v ≡ section_entry m i v
+  same_entry =
+      λ d. entry_in m.serial (points (asked v) (state_word_of (m.state i)) (answer_of (step_of v)
+      (word_same m (upd m.hand c h) (word_of (step_of v)) d) (goods_same m (upd m.hand c h) (step_of v) d)))
 
 -- THE NEXT CALL
 
@@ -131,9 +139,10 @@ module _ (script : Script) (m : Memory) (b : Board) (c : ℕ) (k : HandSeen) (sh
   X = b.context I
 
   abbrev Result : ContextSeen → Type 0
-  Result v = ComesSoon script (programs_of script) I b (section_maps script m c I v)
+  Result v = ComesSoon script (programs_of script) I b (section_maps script m c I v) (section_entry m I v)
 
-  once : {n : Memory} → Comes script (programs_of script) I 1 b n → ComesSoon script (programs_of script) I b n
+  once : {n : Memory} {made : Option Entry} → Comes script (programs_of script) I 1 b n made →
+      ComesSoon script (programs_of script) I b n made
   once h = record { count = 1; few = omega arith; comes = h }
 
   found : context_in m.context m.slot m.hand I ≡ Some k.value
@@ -150,87 +159,105 @@ module _ (script : Script) (m : Memory) (b : Board) (c : ℕ) (k : HandSeen) (sh
     ready_thread = subst (IsReady script b I) is ready
 
     -- its step, where it is about something
-    goes_on : threads.begun script t ≡ t → Result (begun script k.value)
-    goes_on same =
-        subst Result (ap Thread (sym same) ∙ ap (begun script) (sym is))
-        (once (thread_comes script m b c I k t sh ready.locks was refl is ready.made needs
+    pub step_comes : threads.begun script t ≡ t →
+        Comes script (programs_of script) I 1 b (section_maps script m c I (Thread t)) (section_entry m I (Thread t))
+    step_comes same =
+        thread_comes script m b c I k t sh ready.locks was refl is ready.made needs
         (subst (λ (z : ThreadSeen). threads.can_ask z ≡ true) same ready_thread.asks)
         (subst (λ (z : ThreadSeen). IsSpelled script.table (ask_in z.id z.own z.activity)) same ready_thread.spelled)
-        (subst (λ (z : ThreadSeen). about.IsSoundAt z.id z.own z.activity) same ready_thread.sound.doing)))
+        (subst (λ (z : ThreadSeen). about.IsSoundAt z.id z.own z.activity) same ready_thread.sound.doing)
+
+    goes_on : threads.begun script t ≡ t → Result (begun script k.value)
+    goes_on same = subst Result (ap Thread (sym same) ∙ ap (begun script) (sym is)) (once (step_comes same))
 
     -- its next call, and the first step of it
-    begins_on : (last : Option Reply) → t.activity ≡ activity.Alone (location.Between last) → Result (begun script k.value)
-    begins_on last e =
-        subst Result (ap (begun script) (sym is)) (subst (ComesSoon script (programs_of script) I b)
-        (same_maps script m c I (Some K1) (Thread T1)) (record {
-          count = 2;
-          few = omega arith;
-          comes = record { board = comes.board; turns = more b B.board comes.board B.turn comes.turns; shows = comes.shows };
-        }))
-      where
-        ver : ((b.seen I).word.version == t.id.version) ≡ true
-        ver =
-            made_test (b.seen I).word t ((b.seen I).word.version == t.id.version) refl
-            (λ q. ready.made (ap (λ (z : Context). z.at) shown.context ∙ q))
+    module _ (last : Option Reply) (e : t.activity ≡ activity.Alone (location.Between last)) where
+      ver : ((b.seen I).word.version == t.id.version) ≡ true
+      ver =
+          made_test (b.seen I).word t ((b.seen I).word.version == t.id.version) refl
+          (λ q. ready.made (ap (λ (z : Context). z.at) shown.context ∙ q))
 
-        at : X.at ≡ Alone (location.Between last)
-        at = ap (λ (z : Context). z.at) shown.context ∙ rw ver (ap at_in e)
+      at : X.at ≡ Alone (location.Between last)
+      at = ap (λ (z : Context). z.at) shown.context ∙ rw ver (ap at_in e)
 
-        id_is : id_at b I ≡ t.id
-        id_is = λ d. record { number = sym shown.number d; version = eqb-true (b.seen I).word.version t.id.version ver d }
+      id_is : id_at b I ≡ t.id
+      id_is = λ d. record { number = sym shown.number d; version = eqb-true (b.seen I).word.version t.id.version ver d }
 
-        position_is : X.position ≡ t.position
-        position_is = ap (λ (z : Context). z.position) shown.context
+      position_is : X.position ≡ t.position
+      position_is = ap (λ (z : Context). z.position) shown.context
 
-        serial_is : X.serial ≡ t.serial
-        serial_is = ap (λ (z : Context). z.serial) shown.context
+      serial_is : X.serial ≡ t.serial
+      serial_is = ap (λ (z : Context). z.serial) shown.context
 
-        own_is : X.own ≡ t.own
-        own_is = ap (λ (z : Context). z.own) shown.context ∙ ap (section_own t.own) e
+      own_is : X.own ≡ t.own
+      own_is = ap (λ (z : Context). z.own) shown.context ∙ ap (section_own t.own) e
 
-        T1 : ThreadSeen
-        T1 = threads.begun script t
+      abbrev pub Begun : ThreadSeen
+      Begun = threads.begun script t
 
-        K1 : HandSeen
-        K1 = record { context = I; value = Thread T1 }
+      abbrev pub Begun_hand : HandSeen
+      Begun_hand = record { context = I; value = Thread Begun }
 
-        next_is : begun_next script.table (record {
-          id = id_at b I;
-          position = went_on X.position last;
-          own = X.own;
-          serial = X.serial;
-          done = t.done;
-          activity = activity.Alone (location.Between last);
-        })
-            (next_of script.version X.position last) ≡ T1
-        next_is =
-            (λ d. begun_next script.table (record {
-              id = id_is d;
-              position = went_on (position_is d) last;
-              own = own_is d;
-              serial = serial_is d;
-              done = t.done;
-              activity = sym e d;
-            }) (next_of script.version (position_is d) last))
-            ∙ ap (begun_at script t) (sym e)
+      next_is : begun_next script.table (record {
+        id = id_at b I;
+        position = went_on X.position last;
+        own = X.own;
+        serial = X.serial;
+        done = t.done;
+        activity = activity.Alone (location.Between last);
+      })
+          (next_of script.version X.position last) ≡ Begun
+      next_is =
+          (λ d. begun_next script.table (record {
+            id = id_is d;
+            position = went_on (position_is d) last;
+            own = own_is d;
+            serial = serial_is d;
+            done = t.done;
+            activity = sym e d;
+          }) (next_of script.version (position_is d) last))
+          ∙ ap (begun_at script t) (sym e)
 
-        B : IsBegun script b I (with_hand m c (Some K1)) (next_at b.size (id_at b I) (next_of script.version X.position last))
-        B =
-            subst (λ (z : ThreadSeen). IsBegun script b I (with_hand m c (Some (record { context = I; value = Thread z })))
-            (next_at b.size (id_at b I) (next_of script.version X.position last))) next_is
-            (begins_shown script m b c I last t.done k sh ready.locks was refl (next_of script.version X.position last) refl at
-            (subst (λ n. n < 2 ^ 32 - 1) (sym serial_is) ready_thread.counted)
-            (ap (λ (v : ContextSeen). version_held (record { context = I; value = v })) is
-            ∙ sym (eqb-true (b.seen I).word.version t.id.version ver)))
+      -- the board on which it has begun
+      pub begun_board : IsBegun script b I (with_hand m c (Some Begun_hand)) (next_at b.size (id_at b I) (next_of script.version X.position last))
+      begun_board =
+          subst (λ (z : ThreadSeen). IsBegun script b I (with_hand m c (Some (record { context = I; value = Thread z })))
+          (next_at b.size (id_at b I) (next_of script.version X.position last))) next_is
+          (begins_shown script m b c I last t.done k sh ready.locks was refl (next_of script.version X.position last) refl at
+          (subst (λ n. n < 2 ^ 32 - 1) (sym serial_is) ready_thread.counted)
+          (ap (λ (v : ContextSeen). version_held (record { context = I; value = v })) is
+          ∙ sym (eqb-true (b.seen I).word.version t.id.version ver)))
 
-        comes : Comes script (programs_of script) I 1 B.board (section_maps script (with_hand m c (Some K1)) c I (Thread T1))
-        comes =
-            thread_comes script (with_hand m c (Some K1)) B.board c I K1 T1 B.shows B.locks
-            (upd_same m.hand c (Some K1)) refl refl
-            (λ q. next_made b.size (id_at b I) (next_of script.version X.position last) (sym B.stands ∙ q))
-            (subst (Needs script B.board) (sym B.stands) (next_needs script B.board b.size (id_at b I)
-            (next_of script.version X.position last)))
-            ready_thread.asks ready_thread.spelled ready_thread.sound.doing
+      -- the context is one whose thread is made
+      pub begun_made : (begun_board.board.context I).at ≡ Coming → ⊥
+      begun_made q = next_made b.size (id_at b I) (next_of script.version X.position last) (sym begun_board.stands ∙ q)
+
+      -- .. and the step
+      pub begun_comes : Comes script (programs_of script) I 1 begun_board.board (section_maps script (with_hand m c (Some Begun_hand)) c I (Thread Begun))
+          (section_entry (with_hand m c (Some Begun_hand)) I (Thread Begun))
+      begun_comes =
+          thread_comes script (with_hand m c (Some Begun_hand)) begun_board.board c I Begun_hand Begun begun_board.shows begun_board.locks
+          (upd_same m.hand c (Some Begun_hand)) refl refl
+          begun_made
+          (subst (Needs script begun_board.board) (sym begun_board.stands) (next_needs script begun_board.board b.size (id_at b I)
+          (next_of script.version X.position last)))
+          ready_thread.asks ready_thread.spelled ready_thread.sound.doing
+
+      begins_on : Result (begun script k.value)
+      begins_on =
+          subst Result (ap (begun script) (sym is))
+          (subst (λ (z : Memory). ComesSoon script (programs_of script) I b z (section_entry m I (Thread Begun)))
+          (same_maps script m c I (Some Begun_hand) (Thread Begun)) (record {
+            count = 2;
+            few = omega arith;
+            comes = record {
+              board = begun_comes.board;
+              turns = more b begun_board.board begun_comes.board begun_board.turn begun_comes.turns;
+              shows = begun_comes.shows;
+              entries = (λ d. entries_of b (begun_board.silent d) ++ begun_comes.entries d)
+                  ∙ ap (λ (z : Option Entry). recorded z []) (same_entry script m c I (Some Begun_hand) (Thread Begun));
+            };
+          }))
 
     by_doing : (a : Activity) → t.activity ≡ a → Result (begun script k.value)
     by_doing (activity.Alone (location.Between last)) e = begins_on last e

@@ -27,7 +27,7 @@ use Rattle.k_good.specs.Locks.{LocksHold, locks_at}
 use Rattle.k_places.specs.Contexts.{held_on, programs_of, switch_at, switch_hand}
 use Rattle.k_places.specs.Memory.{Memory, moved_maps}
 use Rattle.k_places.specs.Asks.{IsAskFit}
-use Rattle.k_turns.specs.Sections.{Comes, more, none, section_maps}
+use Rattle.k_turns.specs.Sections.{Comes, more, none, section_entry, section_maps}
 use Rattle.k_places.specs.Answers.{answer_in, entry_in, goods_found}
 use Rattle.k_places.specs.Shows.{Shows}
 use Rattle.k_places.proofs.Goes.{KeepsVersion, Returns}
@@ -136,10 +136,12 @@ module _ (script : Script) (m : Memory) (b : Board) (c i : ℕ) (call : SwitchCa
 
   pub switch_steps : IsAskFit m b A → X.at ≡ InSwitch call P → can_ask l ≡ true → hand_of l ≡ held_on b (locks_at X.at) →
       version_held k ≡ 1 → Comes script (programs_of script) i 1 b (section_maps script m c i (Carrier Mine))
+      (section_entry m i (Carrier Mine))
   switch_steps fit at can hand held = record {
     board = After;
     turns = more b After After (switches call P R at (going_at l can) an) (none After);
     shows = by (is_again An) refl;
+    entries = refl;
   }
     where
       an : Answers b A R

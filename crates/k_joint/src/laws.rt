@@ -3,7 +3,7 @@
 ghost use Rattle.std.specs.Prelude.{ℕ};
 ghost use Rattle.k_script.specs.Script.{Script};
 ghost use Rattle.k_carrier.specs.Asked.{ask_of};
-ghost use Rattle.k_world.specs.Steps.{moved, parked, sliced, started, step_in};
+ghost use Rattle.k_world.specs.Steps.{entry_of, moved, parked, sliced, started, step_in};
 ghost use Rattle.k_world.specs.Worlds.{World, carrier_at};
 ghost use Rattle.k_board.specs.Boards.{Board};
 ghost use Rattle.k_places.specs.Fits.{IsStepWithin};
@@ -13,11 +13,12 @@ ghost use Rattle.k_places.specs.Shows.{ShowsBoard};
 
 /// Each move of a carrier comes to turns of the board that the world shows: to one of the context in its hand where it makes
 /// a step of it, or to two where that first begins its next call; to none where it looks at a context, puts one down or takes
-/// one, but for the end of a switch, a thread that wakes, and the beginning of a switch.
+/// one, but for the end of a switch, a thread that wakes, and the beginning of a switch. The entry of the move is that of the
+/// turns' points.
 pub fn every_move_is_turns_of_the_board()
     ensures { (script : Script) (w : World) (c : ℕ) (b : Board) → ShowsBoard script w b
         → IsStepWithin w (step_in script c w) → IsMoveReady script c b (carrier_at w c) (ask_of (carrier_at w c))
-        → ShowsLater script b (acting (ask_of (carrier_at w c))) (moved script c w) }
+        → ShowsLater script b (acting (ask_of (carrier_at w c))) (entry_of w (step_in script c w)) (moved script c w) }
 {}
 
 /// A start, the end of a slice and a park show the same board.

@@ -1,10 +1,10 @@
-mod Outside
-mod Starts
-mod Programs
-mod Turns
-mod Serials
-mod Agreeing
-mod Moves
-mod Runs
-mod Schedules
-mod Replies
+pub mod Outside
+pub mod Starts
+pub mod Programs
+pub mod Turns
+pub mod Serials
+pub mod Agreeing
+pub mod Moves
+pub mod Runs
+pub mod Schedules
+pub mod Replies

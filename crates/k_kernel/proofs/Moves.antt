@@ -14,9 +14,8 @@ use Rattle.k_board.specs.Places.{facts_of}
 use Rattle.k_legal.specs.Runs.{entries_of}
 use Rattle.k_points.specs.Points.{turn_point}
 use Rattle.k_plays.specs.Scripts.{programs_of, ranged_programs}
-use Rattle.k_turns.specs.Sections.{Turns, more, none}
+use Rattle.k_turns.specs.Sections.{Turns, entries_along, more, none}
 use Rattle.k_invariant.specs.Invariant.{BoardHolds}
-use Rattle.k_kernel.specs.Moves.{entries_along}
 use Rattle.k_kernel.specs.Serials.{SerialsHold}
 use Rattle.k_kernel.proofs.Agreeing.{agree_here}
 use Rattle.k_invariant.proofs.Keeps.{goes_on}

@@ -1,5 +1,7 @@
 -- A move of a carrier keeps what holds of the world.
-use Rattle.std.proofs.Common.{◌≡◌, ℕ, refl, sym, ap, ◌∙◌, subst, arith, Option, Some, None, length, ◌<◌}
+use Rattle.std.proofs.Common.{◌≡◌, ℕ, refl, sym, ap, ◌∙◌, subst, arith, Option, Some, None, List, [], ◌++◌, length, ◌<◌}
+use Rattle.std.proofs.lemmas.List.{append-nil}
+use Rattle.k_ids.specs.declared.histories.Entry.{Entry}
 use Rattle.k_ids.specs.StateWords.{state_word_of}
 use Rattle.k_ids.specs.declared.state_word.StateWord.{StateWord}
 use Rattle.k_locks.specs.declared.locks.WordName.TheVariants as word
@@ -16,12 +18,13 @@ use Rattle.k_places.specs.Contexts.{IsShown, ShowsContext, switch_at}
 use Rattle.k_places.specs.Fits.{IsStepWithin}
 use Rattle.k_places.specs.Memory.{Memory, memory_of}
 use Rattle.k_joint.specs.Ready.{IsCounted, IsMoveReady, IsReady}
-use Rattle.k_joint.specs.Runs.{acting}
+use Rattle.k_joint.specs.Runs.{ShowsLater, acting}
 use Rattle.k_room.proofs.Wholes.{whole_few}
 use Rattle.k_places.proofs.Places.{held_is}
 use Rattle.k_places.proofs.Raw.{word_is}
+use Rattle.k_joint.proofs.Moves.{move_shown}
 use Rattle.k_joint.proofs.Runs.{hand_is, hand_of_run}
-use Rattle.k_kernel.specs.Moves.{CanMove, CanRun, HasRoom, IsGranted, IsMade, IsRunnable, IsSpelledIn}
+use Rattle.k_kernel.specs.Moves.{CanMove, CanRun, HasRoom, IsMade, IsRunnable, IsSpelledIn}
 use Rattle.k_kernel.specs.Worlds.{WorldHolds}
 use Rattle.k_kernel.proofs.Agreeing.{facts_all}
 use Rattle.k_kernel.proofs.Moves.{Reached, turns_hold}
@@ -43,6 +46,16 @@ word_seen script w h n = ap state_word_of (word_is w (word.State n)) ∙ sym (h.
 step_of_carrier : (script : Script) (c : ℕ) (w : World) → c < length w.carriers → (step_in script c w).number < length w.carriers
 unfolding step_in
 step_of_carrier script c w inside = inside
+
+-- the history has the entry of the step, if it makes one
+pub moved_history : (script : Script) (w : World) (c : ℕ) →
+    (moved script c w).history ≡ recorded (entry_of w (step_in script c w)) w.history
+unfolding moved
+moved_history script w c = refl
+
+recorded_last : (made : Option Entry) (entries : List Entry) → recorded made entries ≡ entries ++ recorded made []
+recorded_last None entries = sym (append-nil entries)
+recorded_last (Some e) entries = refl
 
 module _ (script : Script) (limits : IsScript script) (c : ℕ) (w : World) (h : WorldHolds script w) where
   abbrev M : Memory
@@ -72,7 +85,7 @@ module _ (script : Script) (limits : IsScript script) (c : ℕ) (w : World) (h :
           let few = whole_few script w.history h.state limits h.holds.ledgers.leads.follows in
           omega (arith, serial, low, few, room)
 
-  run_ready : (x : HandSeen) → HasRoom script → ask_of (carrier_at w c) ≡ Run x → CanRun script w x → IsSpelledIn script (Run x) →
+  pub run_ready : (x : HandSeen) → HasRoom script → ask_of (carrier_at w c) ≡ Run x → CanRun script w x → IsSpelledIn script (Run x) →
       IsReady script h.board x.context x.value
   run_ready x room e can spelled = record {
     facts = facts_all script limits h.board w.history h.state h.holds x.context;
@@ -93,23 +106,37 @@ module _ (script : Script) (limits : IsScript script) (c : ℕ) (w : World) (h :
   move_ready (LookAt n) room e can spelled = tt
   move_ready (Take n bits) room e can spelled = can
 
-  pub moved_holds : IsGranted script → IsRunnable script c w → WorldHolds script (moved script c w)
-  moved_holds granted r =
-      let ready = move_ready (ask_of (carrier_at w c)) granted.room refl r.move r.spelled in
-      let sizes : IsStepWithin w (step_in script c w) = record {
-        words = h.shows.whole.words;
-        slots = h.shows.whole.slots;
-        carrier = step_of_carrier script c w r.carrier;
-        word = r.word;
-        entry = r.entry;
-      } in
-      let grown = granted.entries w c h.board h.shows sizes ready in
-      let later = grown.later in
+  -- it has grown by the entry that the turns have
+  pub history_told : {told : List Entry} → told ≡ recorded (entry_of w (step_in script c w)) [] →
+      (moved script c w).history ≡ w.history ++ told
+  history_told e =
+      moved_history script w c ∙ recorded_last (entry_of w (step_in script c w)) w.history ∙ ap (λ z. w.history ++ z) (sym e)
+
+  -- it has its sizes, and the move is of words and numbers that there are
+  pub move_within : IsRunnable script c w → IsStepWithin w (step_in script c w)
+  move_within r = record {
+    words = h.shows.whole.words;
+    slots = h.shows.whole.slots;
+    carrier = step_of_carrier script c w r.carrier;
+    word = r.word;
+    entry = r.entry;
+  }
+
+  -- the board that is shown then
+  pub later_shown : HasRoom script → IsRunnable script c w →
+      ShowsLater script h.board (acting (ask_of (carrier_at w c))) (entry_of w (step_in script c w)) (moved script c w)
+  later_shown room r =
+      move_shown script w c h.board h.shows (move_within r)
+      (move_ready (ask_of (carrier_at w c)) room refl r.move r.spelled)
+
+  pub moved_holds : HasRoom script → IsRunnable script c w → WorldHolds script (moved script c w)
+  moved_holds room r =
+      let later = later_shown room r in
       let before : Reached script h.board w.history = record { state = h.state; holds = h.holds; serials = h.serials } in
       let after = turns_hold script limits
       (acting (ask_of (carrier_at w c))) later.count h.board later.board w.history later.turns before in
       let reached : Reached script later.board (moved script c w).history =
-      subst (Reached script later.board) (sym grown.history) after in
+      subst (Reached script later.board) (sym (history_told later.entries)) after in
       record {
         board = later.board;
         state = reached.state;
@@ -117,9 +144,3 @@ module _ (script : Script) (limits : IsScript script) (c : ℕ) (w : World) (h :
         holds = reached.holds;
         serials = reached.serials;
       }
-
--- the history has the entry of the step, if it makes one
-pub moved_history : (script : Script) (w : World) (c : ℕ) →
-    (moved script c w).history ≡ recorded (entry_of w (step_in script c w)) w.history
-unfolding moved
-moved_history script w c = refl

@@ -1,13 +1,9 @@
 -- The board that the first world shows is one on which the kernel begins to run a script.
-use Rattle.std.proofs.Common.{◌≡◌, ℕ, ◌<◌, ◌≤◌, nat_lt, Bool, true, false, cond, refl, ap, ◌∙◌, arith, List, [], length}
+use Rattle.std.proofs.Common.{◌≡◌, ℕ, ◌<◌, ◌≤◌, Bool, true, false, refl, ap, ◌∙◌, arith, [], length}
 use Rattle.std.specs.Prelude.{not, slice_index_or}
-use Rattle.std.specs.List.{AllByRecursion}
-use Rattle.std.proofs.lemmas.Bool.{cond_both}
 use Rattle.std.proofs.lemmas.Bool.Decides.{nat_tests}
 use Rattle.std.proofs.lemmas.List.{get_or_default, length-map}
 use Rattle.std.proofs.lemmas.List.FromFn.{length-range_with_len}
-use Rattle.k_model.specs.History.{dead_place, new_place, opening_place}
-use Rattle.k_model.specs.State.{Place, nowhere}
 use Rattle.k_script.specs.declared.lines.ThreadLine.{ThreadLine}
 use Rattle.k_script.specs.Limits.{IsScript}
 use Rattle.k_script.specs.Plays.{IsWithin, first_id, no_thread, opened_for}

@@ -15,7 +15,7 @@ ghost use Rattle.k_invariant.specs.Invariant.{BoardHolds, IsOpeningBoard};
 ghost use Rattle.k_legal.specs.Runs.{Run};
 ghost use Rattle.k_plays.specs.Scripts.{ranged_programs};
 ghost use Rattle.k_points.specs.Points.{turn_point};
-ghost use Rattle.k_kernel.specs.Moves.{IsGranted, IsRunnable};
+ghost use Rattle.k_kernel.specs.Moves.{HasRoom, IsRunnable};
 ghost use Rattle.k_kernel.specs.Worlds.{WorldHolds};
 ghost use Rattle.k_caller.specs.Threads.{ThreadSeen};
 ghost use Rattle.k_caller.specs.declared.activity.Activity.TheVariants as activity;
@@ -48,9 +48,9 @@ pub fn the_first_world_holds()
 }
 
 /// After any move of a carrier all of it holds again, of the world that the move leaves, and the history has grown by nothing or
-/// by one entry. What is taken for granted is named: of the carrier, of the board, and of any world.
+/// by one entry. The script has room for the serials; what is taken for granted of the carrier and of the board is named.
 pub fn every_move_keeps_the_world()
-    ensures holds { (script : Script) (w : World) (c : ℕ) → IsScript script → IsGranted script → IsRunnable script c w →
+    ensures holds { (script : Script) (w : World) (c : ℕ) → IsScript script → HasRoom script → IsRunnable script c w →
         WorldHolds script w → WorldHolds script (moved script c w) }
     ensures history { (script : Script) (w : World) (c : ℕ) →
         (moved script c w).history ≡ recorded (entry_of w (step_in script c w)) w.history }
@@ -68,7 +68,7 @@ pub fn what_comes_from_outside_keeps_the_world()
 /// script, and has twice the phases of the script's programs of entries at most.
 pub fn every_run_of_the_world_is_linearizable()
     ensures holds { (script : Script) (carriers : ℕ) (turns : List WorldTurn) → IsScript script → carriers ≤ 8 →
-        IsGranted script → AreRunnable script turns (booted script carriers) →
+        HasRoom script → AreRunnable script turns (booted script carriers) →
         WorldHolds script (run_of script carriers turns) }
     ensures follows { (script : Script) (w : World) → IsScript script → WorldHolds script w →
         (k : KernelState) × Follows script w.history k × (length w.history ≤ 2 * phases_of script) }

@@ -153,7 +153,7 @@ module _ (script : Script) (carriers : ℕ) (roomy : IsRoomy script carriers) wh
   booted_contexts : (n : ℕ) → context_at (booted script carriers) n ≡ resting_in (boot_resting script carriers n)
   booted_contexts n = elim (cases_lt n 72) [ inl l ↦ within n l | inr l ↦ past n l ]
 
-  booted_counts : IsTallied script.table (counting_in (booted script carriers) (boot_versions script))
+  pub booted_counts : IsTallied script.table (counting_in (booted script carriers) (boot_versions script))
   booted_counts =
       same_counting script.table [] (booted script carriers).steps (boot_counting script carriers).context
       (context_at (booted script carriers)) (boot_versions script) (sym (booted_log script carriers))

@@ -11,7 +11,7 @@
 //!
 //! The functions do nothing: each has a law as its contract. That a step finds contexts where their words tell, and leaves them
 //! there, is a premise (`IsInPlace`), as is that serials don't end, and that what makes a step can be asked for it
-//! (`IsCountable`).
+//! (`IsCountable`). k_counted shows the same of the running world, where contexts are as the world shows them.
 #![tactic(auto)]
 
 mod laws;

@@ -1,15 +1,15 @@
-mod Names
-mod Holding
-mod Rules
-mod Looks
-mod Replaced
-mod Wins
-mod Takes
-mod Gives
-mod Outside
-mod ReadyLists
-mod Switches
-mod Releases
-mod Threads
-mod Granted
-mod Sums
+pub mod Names
+pub mod Holding
+pub mod Rules
+pub mod Looks
+pub mod Replaced
+pub mod Wins
+pub mod Takes
+pub mod Gives
+pub mod Outside
+pub mod ReadyLists
+pub mod Switches
+pub mod Releases
+pub mod Threads
+pub mod Granted
+pub mod Sums

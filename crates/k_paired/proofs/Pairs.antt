@@ -112,6 +112,7 @@ module _ (g : Programs) (b : Board) (w : World) (h : IsPair g b w) where
     thread_pair i b' f asked q wait free t = record {
       step = s.step;
       kind = s.kind;
+      grants = s.grants;
       pair = subst (λ (v : World). IsPair g b' v) (sym stepped)
           (pair_by i b' (after_step w c i s.step) q t (pushes_stay g b b' w c i m q free t)
           (thread_good w c i m.holder m.parts m.run s.step s.grants) record { agrees = s.agrees; stages = stays s.step });

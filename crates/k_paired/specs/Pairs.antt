@@ -7,6 +7,7 @@ use Rattle.k_good.specs.Good.{IsGood}
 use Rattle.k_good.specs.Ranges.{IsWithin, NamesFit}
 use Rattle.k_tokens.specs.World.{World}
 use Rattle.k_tokens.specs.Good as tokens
+use Rattle.k_tokens.specs.Grants.{Grants}
 use Rattle.k_tokens.specs.Steps.{ThreadStep}
 use Rattle.k_switching.specs.Rules.{carrier_step}
 use Rattle.k_grants.specs.Granted.{Finding, IsFound, is_again}
@@ -22,11 +23,12 @@ pub record IsPair (g : Programs) (b : Board) (w : World) : Type 0 where
   pub world : tokens.IsGood w
   pub alike : AreAlike b w
 
--- The turn is the carrier's step, and leads to a pair.
+-- The turn is the carrier's step, which its location grants, and leads to a pair.
 pub record GoesOn (g : Programs) (b : Board) (w : World) (c i : ℕ) (b' : Board) (found : Finding) (t : Turn g b i b')
     : Type 0 where
   pub step : ThreadStep
   pub kind : IsFound found (is_again g b i b' t) step
+  pub grants : Grants w i step
   pub pair : IsPair g b' (carrier_step w c step)
 
 -- Threads, ready lists and switches are as they were.

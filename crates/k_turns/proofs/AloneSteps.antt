@@ -27,7 +27,8 @@ use Rattle.k_good.proofs.Owners.{Owns}
 use Rattle.k_places.specs.Contexts.{programs_of}
 use Rattle.k_places.specs.Memory.{Memory, moved_maps}
 use Rattle.k_places.specs.Asks.{IsAskFit}
-use Rattle.k_turns.specs.Sections.{Comes, more, none, section_maps}
+use Rattle.k_turns.specs.Sections.{Comes, more, none, section_entry, section_maps}
+use Rattle.k_turns.proofs.Entries.{entry_told}
 use Rattle.k_places.specs.Answers.{answer_in, entry_in, goods_found}
 use Rattle.k_places.specs.Shows.{Shows}
 use Rattle.k_turns.proofs.Alones.{alone_goes}
@@ -84,11 +85,12 @@ module _ (script : Script) (m : Memory) (b : Board) (c i : ℕ) (p : ThreadLocat
   Then q = if q then threads.asked T else threads.moved (threads.asked T) An
 
   pub alone_steps : IsAskFit m b A → X.at ≡ Alone p → can_ask p ≡ true → version_held k ≡ (b.seen i).word.version →
-      Comes script (programs_of script) i 1 b (section_maps script m c i (Thread T))
+      Comes script (programs_of script) i 1 b (section_maps script m c i (Thread T)) (section_entry m i (Thread T))
   alone_steps fit at can held = record {
     board = After;
     turns = more b After After (goes_alone p R at can an) (none After);
     shows = by (is_again An) refl;
+    entries = entry_told b m.serial sh.serials (points (id_at b i) p R) (points (id_at b i) p R) refl;
   }
     where
       an : Answers b A R

@@ -23,6 +23,7 @@ use Rattle.k_board.specs.Boards.{Alone, At, Board, Context, id_at}
 use Rattle.k_board.specs.Steps.{begun, begun_at, placed, working}
 use Rattle.k_board.specs.Turns.{Turn, begins, turns_to_work}
 use Rattle.k_good.specs.Locks.{LocksHold, locks_at}
+use Rattle.k_points.specs.Points.{turn_point}
 use Rattle.k_places.specs.Contexts.{at_in, hand_in, held_on, programs_of}
 use Rattle.k_places.specs.Memory.{Memory}
 use Rattle.k_places.specs.Shows.{Shows}
@@ -74,10 +75,11 @@ abbrev pub next_at : ℕ → ThreadId → Next → At
 next_at size me (next.Phase f) = begun_at size me f
 next_at size me (next.Work count) = Alone (location.Work count)
 
--- A board that these maps show, one turn later.
+-- A board that these maps show, one turn later, which has no point.
 pub record IsBegun (script : Script) (b : Board) (i : ℕ) (m : Memory) (p : At) : Type 0 where
   pub board : Board
   pub turn : Turn (programs_of script) b i board
+  pub silent : turn_point (programs_of script) b i board turn ≡ None
   pub shows : Shows script m board
   pub locks : LocksHold board.owner board.table board.ready board.context
   pub stands : (board.context i).at ≡ p
@@ -113,6 +115,7 @@ module _ (script : Script) (m : Memory) (b : Board) (c i : ℕ) (last : Option R
   begins_shown (next.Phase f) e at small held = record {
     board = placed b i (Called f);
     turn = begins last f at e;
+    silent = refl;
     shows = shows;
     locks = locks_placed b i (Called f) locks same_locks;
     stands = ap (λ (z : Context). z.at) (upd_same b.context i (Called f));
@@ -132,6 +135,7 @@ module _ (script : Script) (m : Memory) (b : Board) (c i : ℕ) (last : Option R
   begins_shown (next.Work count) e at small held = record {
     board = placed b i (Works count);
     turn = turns_to_work last count at e;
+    silent = refl;
     shows = shows;
     locks = locks_placed b i (Works count) locks (ap locks_at (sym at));
     stands = ap (λ (z : Context). z.at) (upd_same b.context i (Works count));

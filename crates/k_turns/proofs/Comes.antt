@@ -42,7 +42,7 @@ use Rattle.k_places.specs.Memory.{Memory}
 use Rattle.k_places.specs.Asks.{IsAskFit}
 use Rattle.k_turns.specs.Spelled.{IsSpelled, ask_in}
 use Rattle.k_turns.specs.Needs.{Needs}
-use Rattle.k_turns.specs.Sections.{Comes, section_maps}
+use Rattle.k_turns.specs.Sections.{Comes, section_entry, section_maps}
 use Rattle.k_places.specs.Shows.{IsLockOf, Shows, context_in}
 use Rattle.k_turns.proofs.AloneSteps.{alone_steps, usual as alone_usual}
 use Rattle.k_turns.proofs.CreateSteps.{IsPlain as IsPlainCreate, create_steps, usual as create_usual}
@@ -93,7 +93,7 @@ module _ (script : Script) (m : Memory) (b : Board) (c i : ℕ) (k : HandSeen) (
   X = b.context i
 
   abbrev Result : ℕ → ThreadSeen → Type 0
-  Result n s = Comes script (programs_of script) n 1 b (section_maps script m c n (Thread s))
+  Result n s = Comes script (programs_of script) n 1 b (section_maps script m c n (Thread s)) (section_entry m n (Thread s))
 
   found : context_in m.context m.slot m.hand i ≡ Some (Thread t)
   found = ap (context_in m.context m.slot m.hand) (sym mine) ∙ held_is m.context m.slot m.hand c k sh.places was ∙ ap Some is

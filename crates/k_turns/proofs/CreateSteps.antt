@@ -39,7 +39,8 @@ use Rattle.k_good.specs.Locks.{LocksHold, locks_at}
 use Rattle.k_places.specs.Contexts.{held_on, programs_of}
 use Rattle.k_places.specs.Memory.{Memory, moved_maps}
 use Rattle.k_places.specs.Asks.{IsAskFit}
-use Rattle.k_turns.specs.Sections.{Comes, more, none, section_maps}
+use Rattle.k_turns.specs.Sections.{Comes, more, none, section_entry, section_maps}
+use Rattle.k_turns.proofs.Entries.{entry_told}
 use Rattle.k_places.specs.Answers.{answer_in, entry_in, goods_found}
 use Rattle.k_places.specs.Shows.{Shows}
 use Rattle.k_places.proofs.Goes.{Goes, KeepsVersion, goods_asked, versioned}
@@ -277,11 +278,12 @@ module _ (script : Script) (m : Memory) (b : Board) (c i : ℕ) (call : CreateCa
   pub create_steps : IsPlain P → IsAskFit m b A → X.at ≡ InCreate call P → can_ask l ≡ true →
       hand_of l ≡ held_on b (locks_at X.at) → version_held k ≡ call.caller.version → call.caller.number ≡ i →
       ((b.seen i).word.version == call.caller.version) ≡ true →
-      Comes script (programs_of script) i 1 b (section_maps script m c i (Thread T))
+      Comes script (programs_of script) i 1 b (section_maps script m c i (Thread T)) (section_entry m i (Thread T))
   create_steps pl fit at can hand held num ver = record {
     board = After;
     turns = more b After After (creates call P R at an) (none After);
     shows = by (is_again An) refl;
+    entries = entry_told b m.serial sh.serials Raw_point (points call (b.seen i).word On P R) (point_told (is_again An) refl);
   }
     where
       an : Answers b A R
@@ -312,13 +314,21 @@ module _ (script : Script) (m : Memory) (b : Board) (c i : ℕ) (call : CreateCa
                 (same_contexts (programs_of script) call P R b.context pl);
           })
 
-      by : (q : Bool) → is_again An ≡ q → Shows script (moved_maps script m c i (Section (step_for A Goes_home))
-          (Some (record { context = i; value = Thread (Then q) })) (entry_in m.serial Raw_point)) After
-      by true e =
+      -- the same step comes again
+      waits : is_again An ≡ true → GoesSo (Then true).activity (Then true).own Raw_point
+      waits e =
           let ag : asks.is_again R ≡ true = sym (again_heard A An) ∙ e in
           let back : Raw_point ≡ points call (state_word_of (m.state i)) (hand_of (asked_location l)) P R =
           λ d. points call (state_word_of (m.state i)) (hand_of (asked_location l)) (asked_at l call X.own d)
           (response_of An (ask_of call X.own (asked_at l call X.own d))) in
-          shown (Then true) refl refl refl (waits_on l R Raw_point an ag can in_hand
-          (back ∙ no_point (state_word_of (m.state i)) (hand_of (asked_location l)) P R an ag))
+          waits_on l R Raw_point an ag can in_hand
+          (back ∙ no_point (state_word_of (m.state i)) (hand_of (asked_location l)) P R an ag)
+
+      by : (q : Bool) → is_again An ≡ q → Shows script (moved_maps script m c i (Section (step_for A Goes_home))
+          (Some (record { context = i; value = Thread (Then q) })) (entry_in m.serial Raw_point)) After
+      by true e = shown (Then true) refl refl refl (waits e)
       by false e = shown (Then false) refl refl refl (goes_on fit at can in_hand e)
+
+      point_told : (q : Bool) → is_again An ≡ q → Raw_point ≡ points call (b.seen i).word On P R
+      point_told true e = (waits e).point
+      point_told false e = (goes_on fit at can in_hand e).point

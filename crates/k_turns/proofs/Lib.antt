@@ -1,3 +1,4 @@
+pub mod Entries
 pub mod Alones
 pub mod AloneSteps
 pub mod Begins

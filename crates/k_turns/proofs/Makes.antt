@@ -35,7 +35,8 @@ use Rattle.k_good.specs.Locks.{LocksHold, locks_at}
 use Rattle.k_places.specs.Contexts.{HoldsGoods, ShowsContext, at_in, held_on, programs_of, switch_at, thread_shown}
 use Rattle.k_places.specs.Memory.{Memory, moved_maps}
 use Rattle.k_places.specs.Asks.{IsAskFit}
-use Rattle.k_turns.specs.Sections.{Comes, more, none, section_maps}
+use Rattle.k_turns.specs.Sections.{Comes, more, none, section_entry, section_maps}
+use Rattle.k_turns.proofs.Entries.{entry_told}
 use Rattle.k_places.specs.Answers.{entry_in, goods_found}
 use Rattle.k_places.specs.Shows.{Shows, context_in}
 use Rattle.k_turns.proofs.CreateSteps as steps
@@ -145,11 +146,14 @@ module _ (script : Script) (m : Memory) (b : Board) (c i : ℕ) (call : CreateCa
       hand_of L ≡ held_on b (locks_at X.at) → version_held k ≡ call.caller.version → call.caller.number ≡ i →
       ((b.seen i).word.version == call.caller.version) ≡ true → (b.seen id.number).word ≡ dead_word (id.version - 1) →
       b.context id.number ≡ new_context G call id Coming → 1 ≤ id.version →
-      Comes script G i 1 b (section_maps script m c i (Thread T))
+      Comes script G i 1 b (section_maps script m c i (Thread T)) (section_entry m i (Thread T))
   create_commits fit at hand held num ver dead arriving born = record {
     board = After;
     turns = more b After After (creates call (Locked (locked.CommitCreate id)) Heard at an) (none After);
     shows = by (is_again Told) refl;
+    entries =
+        entry_told b m.serial sh.serials Point_then (points call (b.seen i).word On P Heard)
+        (steps.goes_on script m b c i call L n d own k sh locks was mine fit at refl in_hand na).point;
   }
     where
       an : Answers b Asked Heard

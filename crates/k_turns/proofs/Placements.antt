@@ -34,7 +34,7 @@ use Rattle.k_good.specs.Locks.{LocksHold, locks_at}
 use Rattle.k_places.specs.Contexts.{HoldsGoods, IsShown, ShowsContext, held_on, programs_of, thread_shown}
 use Rattle.k_places.specs.Memory.{Memory, Place, Same, moved_maps, slot_filled}
 use Rattle.k_places.specs.Asks.{IsAskFit}
-use Rattle.k_turns.specs.Sections.{Comes, more, none, section_maps}
+use Rattle.k_turns.specs.Sections.{Comes, more, none, section_entry, section_maps}
 use Rattle.k_places.specs.Answers.{entry_in, goods_found}
 use Rattle.k_places.specs.Shows.{AreInPlace, Rests, Shows, context_in}
 use Rattle.k_turns.proofs.CreateSteps as steps
@@ -111,11 +111,12 @@ module _ (script : Script) (m : Memory) (b : Board) (c i : ℕ) (call : CreateCa
   pub create_places : IsAskFit m b Asked → X.at ≡ InCreate call P → hand_of L ≡ held_on b (locks_at X.at) →
       version_held k ≡ call.caller.version → call.caller.number ≡ i → ((b.seen i).word.version == call.caller.version) ≡ true →
       (b.seen id.number).word ≡ dead_word (id.version - 1) → IsVersion id.version →
-      Comes script G i 1 b (section_maps script m c i (Thread T))
+      Comes script G i 1 b (section_maps script m c i (Thread T)) (section_entry m i (Thread T))
   create_places fit at hand held num ver dead version = record {
     board = After;
     turns = more b After After (creates call P asks.Placed at tt) (none After);
     shows = shows;
+    entries = refl;
   }
     where
       empty : context_word_of (m.context id.number) ≡ Empty

@@ -36,7 +36,7 @@ use Rattle.k_good.specs.Locks.{LocksHold, locks_at}
 use Rattle.k_places.specs.Contexts.{HoldsGoods, ShowsContext, held_on, programs_of}
 use Rattle.k_places.specs.Memory.{Memory, Place, Same, moved_maps, slot_filled}
 use Rattle.k_places.specs.Asks.{IsAskFit}
-use Rattle.k_turns.specs.Sections.{Comes, more, none, section_maps}
+use Rattle.k_turns.specs.Sections.{Comes, more, none, section_entry, section_maps}
 use Rattle.k_places.specs.Answers.{entry_in, goods_found}
 use Rattle.k_places.specs.Shows.{AreInPlace, Shows, context_in}
 use Rattle.k_turns.proofs.DestroySteps as steps
@@ -102,7 +102,7 @@ module _ (script : Script) (m : Memory) (b : Board) (c i : ℕ) (call : DestroyC
   Slots = upd m.slot V Away
 
   abbrev Result : Type 0
-  Result = Comes script G i 1 b (section_maps script m c i (Thread T))
+  Result = Comes script G i 1 b (section_maps script m c i (Thread T)) (section_entry m i (Thread T))
 
   module _ (fit : IsAskFit m b Asked) (at : X.at ≡ InDestroy call P) (hand : hand_of L ≡ held_on b (locks_at X.at))
       (held : version_held k ≡ call.caller.version) (num : call.caller.number ≡ i)
@@ -113,6 +113,7 @@ module _ (script : Script) (m : Memory) (b : Board) (c i : ℕ) (call : DestroyC
       board = After;
       turns = more b After After (destroys call P Heard at an) (none After);
       shows = by (is_again Told) refl;
+      entries = refl;
     }
       where
         an : Answers b Asked Heard

@@ -1,8 +1,8 @@
-mod Hands
-mod Owns
-mod Wholes
-mod Rests
-mod Next
-mod Missed
-mod Conditions
-mod Progress
+pub mod Hands
+pub mod Owns
+pub mod Wholes
+pub mod Rests
+pub mod Next
+pub mod Missed
+pub mod Conditions
+pub mod Progress

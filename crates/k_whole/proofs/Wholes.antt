@@ -78,7 +78,7 @@ module _ (script : Script) (limits : IsScript script) (b : Board) (w : World) (e
     pub whole_goes_on : (b' : Board) (s : Step G b w c b') → WholeGoesOn script b w es k c b' s
     whole_goes_on b' (runs i _ f asked wait free t) =
         let p = thread_pair G b w h.pair c i b' f asked (told i) wait free t in
-        by_turn i b' t (runs i b' f asked wait free t) p.step refl p.kind p.pair
+        by_turn i b' t (runs i b' f asked wait free t) p.step refl (p.kind, p.grants) p.pair
         (owns_left b w c p.step h.owns G h.pair i asked b' t)
     whole_goes_on _ (switches d s p r asked at going an) =
         by_turn (b.size + d) _ (turn.switches s p r at going an) (switches d s p r asked at going an) FindsTaken refl tt

@@ -16,6 +16,7 @@ use Rattle.k_board.specs.Boards.{Alone, Board, InSwitch, Nowhere, Resting}
 use Rattle.k_board.specs.Steps.{Answers, placed, switch_board}
 use Rattle.k_board.specs.Turns.{Turn, is_going}
 use Rattle.k_tokens.specs.World.{ContextName, OfCarrier, OfThread, World}
+use Rattle.k_tokens.specs.Grants.{Grants}
 use Rattle.k_tokens.specs.Steps.{ThreadStep, FindsTaken}
 use Rattle.k_switching.specs.Boot.{Opening}
 use Rattle.k_switching.specs.Claims.{IsAsked}
@@ -87,9 +88,11 @@ step_point g b w c _ (ends_switch s o hand at) = None
 step_point g b w c _ (wakes i hand took inside at) = None
 step_point g b w c _ (stays nobody still) = None
 
--- What the step of the world is where a thread's context makes it: that of what was found. Else it isn't looked at.
+-- What the step of the world is where a thread's context makes it: that of what was found, and its location grants it. Else it
+-- isn't looked at.
 abbrev pub IsStepOf : (g : Programs) (b : Board) (w : World) (c : ℕ) (b' : Board) → Step g b w c b' → ThreadStep → Type 0
-IsStepOf g b w c _ (runs i b' found asked wait free t) step = IsFound found (is_again g b i b' t) step
+IsStepOf g b w c _ (runs i b' found asked wait free t) step =
+    IsFound found (is_again g b i b' t) step × Grants w i step
 IsStepOf g b w c _ (switches d s p r asked at going an) step = Unit {0}
 IsStepOf g b w c _ (begins_switch s hand took at from) step = Unit {0}
 IsStepOf g b w c _ (ends_switch s o hand at) step = Unit {0}

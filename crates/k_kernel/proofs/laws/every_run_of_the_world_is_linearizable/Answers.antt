@@ -6,7 +6,7 @@ use Rattle.k_kernel.proofs.laws.every_run_of_the_world_is_linearizable.Goals as 
 
 pub returns-clause-holds : goal.returns-clause-holds
 returns-clause-holds c =
-    λ script carriers turns limits few granted can. turns_hold script limits granted turns (booted script carriers) can
+    λ script carriers turns limits few room can. turns_hold script limits room turns (booted script carriers) can
     (first_holds script carriers limits few c.the_board_holds_at_the_start.ensures)
 
 pub returns-clause-follows : goal.returns-clause-follows

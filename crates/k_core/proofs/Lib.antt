@@ -1,0 +1,9 @@
+pub mod Found
+pub mod Boots
+pub mod Numbers
+pub mod Ready
+pub mod Homes
+pub mod Moved
+pub mod Courses
+pub mod Turns
+pub mod Can

@@ -1,0 +1,9 @@
+mod Found
+mod Asked
+mod Moved
+mod Versions
+mod Contexts
+mod Countable
+mod Owners
+mod Tallied
+mod Runs

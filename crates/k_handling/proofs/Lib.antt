@@ -1,0 +1,10 @@
+pub mod Contexts
+pub mod Words
+pub mod Handles
+pub mod Moves
+pub mod Looks
+pub mod Outside
+pub mod Gives
+pub mod Taken
+pub mod Takes
+pub mod Switches

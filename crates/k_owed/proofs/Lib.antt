@@ -1,0 +1,14 @@
+pub mod Sums
+pub mod Entries
+pub mod Lowers
+pub mod Ends
+pub mod SendOwes
+pub mod ReceiveOwes
+pub mod CreateOwes
+pub mod DestroyOwes
+pub mod Works
+pub mod AloneOwes
+pub mod SwitchOwes
+pub mod Alone
+pub mod Turns
+pub mod Waits

@@ -1,0 +1,3 @@
+pub mod Works
+pub mod Owes
+pub mod Owed

@@ -1,0 +1,4 @@
+pub mod Threads
+pub mod Running
+pub mod Turning
+pub mod Runs

@@ -1,0 +1,11 @@
+mod Logs
+mod HeldUp
+mod Turns
+mod Published
+mod Courses
+mod Holders
+mod Asking
+mod Others
+mod Carried
+mod Outside
+mod Owed

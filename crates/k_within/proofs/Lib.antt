@@ -1,0 +1,5 @@
+mod Boards
+mod Points
+mod Contexts
+mod Made
+mod Steps

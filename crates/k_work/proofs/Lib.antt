@@ -1,0 +1,13 @@
+pub mod Carriers
+pub mod Asleep
+pub mod Parts
+pub mod Begins
+pub mod Steps
+pub mod Gives
+pub mod Rests
+pub mod Vain
+pub mod Looks
+pub mod Moves
+pub mod Takes
+pub mod Ends
+pub mod Whole

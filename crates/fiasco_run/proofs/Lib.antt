@@ -2,3 +2,4 @@ pub mod Serves
 pub mod Accepted
 pub mod Exact
 pub mod One
+pub mod Flushed

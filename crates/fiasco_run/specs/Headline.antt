@@ -1,13 +1,19 @@
 -- What the program promises where it is done.
-use Rattle.std.specs.Prelude.{ℕ, List, Option}
+use Rattle.std.specs.Prelude.{◌≡◌, ◌⊎◌, ℕ, List, Option, Some}
 use Rattle.k_ids.specs.declared.threads.Found.{Found}
 use Rattle.k_ids.specs.declared.histories.Entry.{Entry}
 use Rattle.k_ids.specs.declared.histories.ReplyLine.{ReplyLine}
-use Rattle.k_outside.specs.Outside.{Appends}
+use Rattle.k_outside.specs.Outside.{Appends, Rose}
 use Rattle.k_history.specs.Report.{report_text}
 use Rattle.k_history.specs.declared.verdict.Verdict.TheVariants as verdict
 use Rattle.k_history.specs.Verdicts.{verdict_text}
+use Rattle.fiasco_run.specs.declared.call.Call.{Call}
+use Rattle.fiasco_run.specs.declared.call.Call.TheVariants as call
+use Rattle.fiasco_run.specs.declared.exit.Exit.{Exit}
+use Rattle.fiasco_run.specs.declared.exit.Exit.TheVariants as exit
+use Rattle.fiasco_run.specs.Calls.{call_of}
 use Rattle.fiasco_run.specs.Due.{IsRunOfSource, IsVerdictOnSource}
+use Rattle.fiasco_run.specs.Served.{IsExact, IsPutAlone, IsServed, SinkUse, SourceUse}
 
 -- `run`: the report was put of a legal, playing, finished history of the script that the source's bytes spell, with the replies
 -- of its replay and its final statuses.
@@ -24,3 +30,17 @@ pub record ReportsLegal (given held holds : Option (List ℕ)) : Type 0 where
   pub events : ℕ
   pub legal : IsVerdictOnSource given (verdict.Legal events)
   pub put : Appends held holds (verdict_text (verdict.Legal events))
+
+-- ALL THAT IS SAID of a call: what `run` and `check` say where they are done, the whole call, the one status that it may have,
+-- and that it is done only where neither the source nor the sink failed.
+pub record IsAnswered (asked : Option Call) (result : Exit) (source : SourceUse) (sink : SinkUse) : Type 0 where
+  pub run : asked ≡ Some call.Run → result ≡ exit.Done → ReportsRun source.given sink.held sink.holds
+  pub check : asked ≡ Some call.Check → result ≡ exit.Done → ReportsLegal source.given sink.held sink.holds
+  pub served : IsServed asked result source sink
+  pub exact : IsExact asked result source.given (Rose source.before source.now) (Rose sink.before sink.now)
+  pub done : result ≡ exit.Done → (source.now ≡ source.before) × (sink.now ≡ sink.before)
+
+-- The words are answered as a call, or there was no memory for them.
+abbrev pub IsAnsweredOrShort : (words : List (List ℕ)) (result : Exit) (source : SourceUse) (sink : SinkUse) → Type 0
+IsAnsweredOrShort words result source sink =
+    IsAnswered (call_of words) result source sink ⊎ IsPutAlone result exit.NoMemory source sink

@@ -72,27 +72,34 @@ abbrev pub TakesFor : Option Call → Due → Option (List ℕ) → Option (List
 TakesFor None d given left = left ≡ given
 TakesFor (Some c) d given left = TakesStatus c (exit_of d) given left
 
--- WHAT IS PUT: the text that is due, and the status is that of what is due; or a front of that text, and the sink failed.
+-- WHAT IS PUT: the text that is due, the status is that of what is due, and the sink never failed; or a front of that text, and
+-- the sink failed.
 abbrev pub IsPutText : Exit → Exit → List ℕ → Option (List ℕ) → Option (List ℕ) → ℕ → ℕ → Type 0
 IsPutText result status text held holds before now =
-    ((result ≡ status) × Appends held holds text)
+    ((result ≡ status) × Appends held holds text × (now ≡ before))
     ⊎ ((result ≡ exit.WriteFault) × AppendsFront held holds text × Rose before now)
 
 -- The text of what the call comes to was put, or a front of it and the sink failed.
 abbrev pub IsPut : Exit → Due → Option (List ℕ) → Option (List ℕ) → ℕ → ℕ → Type 0
 IsPut result d held holds before now = IsPutText result (exit_of d) (text_of d) held holds before now
 
--- THE WHOLE CALL: what is due has its cause, so much of the source was taken, and this was put.
+-- The source never failed, unless a fault of it is what is due.
+abbrev pub IsCalm : Due → ℕ → ℕ → Type 0
+IsCalm d before now = (exit_of d ≡ exit.ReadFault) ⊎ (now ≡ before)
+
+-- THE WHOLE CALL: what is due has its cause, so much of the source was taken, this was put, and no fault is passed over.
 pub record IsServed (asked : Option Call) (result : Exit) (source : SourceUse) (sink : SinkUse) : Type 0 where
   pub what : Due
   pub cause : ComesTo asked source.given source.before source.now what
   pub takes : TakesFor asked what source.given source.left
   pub put : IsPut result what sink.held sink.holds sink.before sink.now
+  pub calm : IsCalm what source.before source.now
 
--- No call is served: the text of a status was put, or after a fault a front of it, and nothing of the source was taken.
+-- No call is served: the text of a status was put, or after a fault a front of it, and the source wasn't asked.
 pub record IsPutAlone (result status : Exit) (source : SourceUse) (sink : SinkUse) : Type 0 where
   pub put : IsPutText result status (exit_text status) sink.held sink.holds sink.before sink.now
   pub untouched : source.left ≡ source.given
+  pub calm : source.now ≡ source.before
 
 -- THE STATUS THAT BYTES CALL FOR
 

@@ -1,20 +1,18 @@
 // From the arguments of the command line to a call.
-ghost use Rattle.std.specs.Prelude.{◌≡◌, ◌≢◌, ◌≤◌, ◌⊎◌, drop, map, string_bytes, Err, Some, IfErr, IfOk, MatchResult};
+ghost use Rattle.std.specs.Prelude.{◌≡◌, ◌≢◌, ◌≤◌, drop, map, string_bytes, Err, IfErr, IfOk, MatchResult};
 ghost use Rattle.std.specs.IoError.{error_kind};
 ghost use Rattle.std.specs.declared.io.ErrorKind.TheVariants.{OutOfMemory};
 ghost use Rattle.std.specs.Vec.Iter.{into_iter_items};
-ghost use Rattle.k_outside.specs.Outside.{Rose};
-ghost use Rattle.fiasco_run.specs.Calls.{call_of};
-ghost use Rattle.fiasco_run.specs.Served.{IsExact, IsPutAlone, IsServed};
-ghost use Rattle.fiasco_run.specs.Headline.{ReportsRun, ReportsLegal};
-ghost use Rattle.fiasco_run.specs.declared.call.Call.TheVariants as call;
+ghost use Rattle.fiasco_run.specs.Served.{IsPutAlone};
+ghost use Rattle.fiasco_run.specs.Headline.{IsAnsweredOrShort};
 
 use crate::exit::Exit;
-use crate::serve::{put_line, top};
-use k_outside::{Sink, Source};
+use crate::serve::top;
+use k_outside::{Sink, Source, StdSink};
 use std::alloc::{AllocError, Global};
 use std::env::Args;
 use std::io;
+use std::io::Write;
 
 /// The words of the call: all arguments but the first, which is the program's name.
 fn words_of(alloc: Global, arguments: Args) -> Result<Vec<String>, AllocError>
@@ -58,18 +56,50 @@ pub fn serve_arguments<S: Source, K: Sink>(
     sink: &mut K,
 ) -> Exit
     // The words behind the first argument are served as `top` serves them, or there was no memory for them.
-    ensures run { IfOk arguments (λ all. call_of (map string_bytes (drop 1 (into_iter_items all))) ≡ Some call.Run → result ≡ Exit.Done → ReportsRun (S.left source.old) (K.held sink.old) (K.held sink.new)) }
-    ensures check { IfOk arguments (λ all. call_of (map string_bytes (drop 1 (into_iter_items all))) ≡ Some call.Check → result ≡ Exit.Done → ReportsLegal (S.left source.old) (K.held sink.old) (K.held sink.new)) }
-    ensures served { IfOk arguments (λ all. IsServed (call_of (map string_bytes (drop 1 (into_iter_items all)))) result (record { given = S.left source.old; left = S.left source.new; before = S.faults source.old; now = S.faults source.new }) (record { held = K.held sink.old; holds = K.held sink.new; before = K.faults sink.old; now = K.faults sink.new }) ⊎ IsPutAlone result Exit.NoMemory (record { given = S.left source.old; left = S.left source.new; before = S.faults source.old; now = S.faults source.new }) (record { held = K.held sink.old; holds = K.held sink.new; before = K.faults sink.old; now = K.faults sink.new })) }
-    ensures exact { IfOk arguments (λ all. IsExact (call_of (map string_bytes (drop 1 (into_iter_items all)))) result (S.left source.old) (Rose (S.faults source.old) (S.faults source.new)) (Rose (K.faults sink.old) (K.faults sink.new)) ⊎ IsPutAlone result Exit.NoMemory (record { given = S.left source.old; left = S.left source.new; before = S.faults source.old; now = S.faults source.new }) (record { held = K.held sink.old; holds = K.held sink.new; before = K.faults sink.old; now = K.faults sink.new })) }
+    ensures told { IfOk arguments (λ all. IsAnsweredOrShort (map string_bytes (drop 1 (into_iter_items all))) result
+        (record { given = S.left source.old; left = S.left source.new; before = S.faults source.old; now = S.faults source.new })
+        (record { held = K.held sink.old; holds = K.held sink.new; before = K.faults sink.old; now = K.faults sink.new })) }
 
     // The arguments aren't told.
-    ensures memory { IfErr arguments (λ error. error_kind error ≡ OutOfMemory → IsPutAlone result Exit.NoMemory (record { given = S.left source.old; left = S.left source.new; before = S.faults source.old; now = S.faults source.new }) (record { held = K.held sink.old; holds = K.held sink.new; before = K.faults sink.old; now = K.faults sink.new })) }
-    ensures form { IfErr arguments (λ error. error_kind error ≢ OutOfMemory → IsPutAlone result Exit.Usage (record { given = S.left source.old; left = S.left source.new; before = S.faults source.old; now = S.faults source.new }) (record { held = K.held sink.old; holds = K.held sink.new; before = K.faults sink.old; now = K.faults sink.new })) }
+    ensures memory { IfErr arguments (λ error. error_kind error ≡ OutOfMemory → IsPutAlone result Exit.NoMemory
+        (record { given = S.left source.old; left = S.left source.new; before = S.faults source.old; now = S.faults source.new })
+        (record { held = K.held sink.old; holds = K.held sink.new; before = K.faults sink.old; now = K.faults sink.new })) }
+    ensures form { IfErr arguments (λ error. error_kind error ≢ OutOfMemory → IsPutAlone result Exit.Usage
+        (record { given = S.left source.old; left = S.left source.new; before = S.faults source.old; now = S.faults source.new })
+        (record { held = K.held sink.old; holds = K.held sink.new; before = K.faults sink.old; now = K.faults sink.new })) }
     ensures later { (S.faults source.old ≤ S.faults source.new) × (K.faults sink.old ≤ K.faults sink.new) }
 {
     match words_told(alloc, arguments) {
         Ok(words) => top(alloc, &words, source, sink),
-        Err(exit) => put_line(exit, exit.line().as_bytes(), sink),
+        Err(exit) => exit.put(sink),
+    }
+}
+
+/// Serves the arguments of the command line over a writer, as [`serve_arguments`] does over any sink, and sends on what the
+/// writer has held back. Where that fails, the sink has failed, and the status is `WriteFault`.
+pub fn serve_flushed<S: Source, W: Write>(
+    alloc: Global,
+    arguments: io::Result<Args>,
+    source: &mut S,
+    sink: &mut StdSink<W>,
+) -> Exit
+    // The words behind the first argument are served as `top` serves them, or there was no memory for them.
+    ensures told { IfOk arguments (λ all. IsAnsweredOrShort (map string_bytes (drop 1 (into_iter_items all))) result
+        (record { given = S.left source.old; left = S.left source.new; before = S.faults source.old; now = S.faults source.new })
+        (record { held = W.contents sink.old.writer; holds = W.contents sink.new.writer; before = sink.old.faults; now = sink.new.faults })) }
+
+    // The arguments aren't told.
+    ensures memory { IfErr arguments (λ error. error_kind error ≡ OutOfMemory → IsPutAlone result Exit.NoMemory
+        (record { given = S.left source.old; left = S.left source.new; before = S.faults source.old; now = S.faults source.new })
+        (record { held = W.contents sink.old.writer; holds = W.contents sink.new.writer; before = sink.old.faults; now = sink.new.faults })) }
+    ensures form { IfErr arguments (λ error. error_kind error ≢ OutOfMemory → IsPutAlone result Exit.Usage
+        (record { given = S.left source.old; left = S.left source.new; before = S.faults source.old; now = S.faults source.new })
+        (record { held = W.contents sink.old.writer; holds = W.contents sink.new.writer; before = sink.old.faults; now = sink.new.faults })) }
+    ensures later { (S.faults source.old ≤ S.faults source.new) × (sink.old.faults ≤ sink.new.faults) }
+{
+    let exit = serve_arguments(alloc, arguments, source, sink);
+    match sink.flush() {
+        Ok(()) => exit,
+        Err(_) => Exit::WriteFault,
     }
 }

@@ -1,5 +1,5 @@
 // `check`: from a source to the verdict on its history.
-ghost use Rattle.std.specs.Prelude.{◌≡◌, ◌≤◌, length, IfErr, IfOk};
+ghost use Rattle.std.specs.Prelude.{◌≡◌, ◌≤◌, ◌⊎◌, length, Err, IfErr, IfOk};
 ghost use Rattle.k_input.specs.Division.{script_part, history_part, IsInputLarge};
 ghost use Rattle.k_history.specs.declared.verdict.Verdict.TheVariants as verdict;
 ghost use Rattle.fiasco_run.specs.Due.{IsCheckStatus, IsVerdictOnSource, IsVerdictOnBytes};
@@ -31,6 +31,7 @@ fn judge_source<S: Source>(alloc: Global, source: &mut S) -> Result<Verdict, Exi
     ensures status { IfErr result (IsCheckStatus (S.left source.old) (S.faults source.old) (S.faults source.new)) }
     ensures all { IfOk result (λ _. TakesAll (S.left source.old) (S.left source.new)) }
     ensures takes { IfErr result (λ exit. TakesStatus call.Check exit (S.left source.old) (S.left source.new)) }
+    ensures calm { result ≡ Err Exit.ReadFault ⊎ S.faults source.new ≡ S.faults source.old }
     ensures later { S.faults source.old ≤ S.faults source.new }
 {
     match read_divided(alloc, source) {
@@ -45,6 +46,7 @@ pub(crate) fn check_source<S: Source>(alloc: Global, source: &mut S) -> Result<u
     ensures status { IfErr result (IsCheckStatus (S.left source.old) (S.faults source.old) (S.faults source.new)) }
     ensures all { IfOk result (λ _. TakesAll (S.left source.old) (S.left source.new)) }
     ensures takes { IfErr result (λ exit. TakesStatus call.Check exit (S.left source.old) (S.left source.new)) }
+    ensures calm { result ≡ Err Exit.ReadFault ⊎ S.faults source.new ≡ S.faults source.old }
     ensures later { S.faults source.old ≤ S.faults source.new }
 {
     match judge_source(alloc, source)? {

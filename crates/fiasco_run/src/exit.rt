@@ -2,9 +2,11 @@
 ghost use Rattle.std.specs.Prelude.{◌≡◌, ◌≤◌, ◌++◌, ◌∷◌, length, codes, decimal};
 ghost use Rattle.k_text.specs.Texts.{line_text};
 ghost use Rattle.fiasco_run.specs.Exits.{exit_number, exit_text, refusal_words, why_word};
+ghost use Rattle.fiasco_run.specs.Served.{IsPutText};
 
 use itoa::Buffer;
 use k_history::Verdict;
+use k_outside::{Sink, put_all};
 use k_reader::{ScriptFault, Why};
 use k_text::Line;
 
@@ -54,6 +56,25 @@ impl Exit {
             Exit::Illegal { verdict } => verdict.line(),
             Exit::Done | Exit::WriteFault => Line::new(),
         }
+    }
+
+    /// Puts its text.
+    pub fn put<K: Sink>(&self, sink: &mut K) -> Exit
+        ensures put { IsPutText result self.now (exit_text self.now) (K.held sink.old) (K.held sink.new) (K.faults sink.old) (K.faults sink.new) }
+        ensures later { K.faults sink.old ≤ K.faults sink.new }
+    {
+        put_line(*self, &self.line(), sink)
+    }
+}
+
+/// Puts a line, and answers this status, or that of a fault of the sink.
+pub(crate) fn put_line<K: Sink>(exit: Exit, line: &Line, sink: &mut K) -> Exit
+    ensures put { IsPutText result exit line.now (K.held sink.old) (K.held sink.new) (K.faults sink.old) (K.faults sink.new) }
+    ensures later { K.faults sink.old ≤ K.faults sink.new }
+{
+    match put_all(sink, line.as_bytes()) {
+        Ok(()) => exit,
+        Err(_) => Exit::WriteFault,
     }
 }
 

@@ -6,8 +6,9 @@
 //! the whole project promises: the report is that of a legal, playing, finished history of the script that the source's bytes
 //! spell; `legal` is said exactly of such a history; and every other status has its cause.
 //!
-//! [`serve_arguments`] gives `top` the words behind the program's name. `main` gives it what the system tells of the command
-//! line, standard input and standard output, and ends with the number of its status.
+//! [`serve_arguments`] gives `top` the words behind the program's name, and [`serve_flushed`] does so over a writer, and sends on
+//! what the writer has held back. `main` gives it what the system tells of the command line, standard input, and standard output
+//! through a buffer, and ends with the number of its status.
 //!
 //! A run makes each call of a thread at once, on the machine of the sequential specification, by the thread of the lowest
 //! number that can go on. A check makes the events of its history on the same machine, in the history's order.
@@ -22,18 +23,23 @@ mod laws;
 mod run;
 mod serve;
 
-pub use arguments::serve_arguments;
+pub use arguments::{serve_arguments, serve_flushed};
 pub use call::Call;
 pub use exit::Exit;
 use k_outside::{StdSink, StdSource};
 pub use laws::{bytes_call_for_one_status, what_is_served_is_accepted};
 pub use serve::top;
+use std::io::BufWriter;
 use std::process::ExitCode;
 use std::{env, io};
 
 fn main(rt: HostRuntime) -> ExitCode {
-    let (mut source, mut sink) = (StdSource::of(rt.reader()), StdSink::of(io::writer(&rt)));
-    ExitCode::from(serve_arguments(rt.alloc(), env::args(&rt), &mut source, &mut sink).number())
+    let (alloc, mut source) = (rt.alloc(), StdSource::of(rt.reader()));
+    let exit = match BufWriter::new(alloc, io::writer(&rt)) {
+        Ok(writer) => serve_flushed(alloc, env::args(&rt), &mut source, &mut StdSink::of(writer)),
+        Err(_) => Exit::NoMemory.put(&mut StdSink::of(io::writer(&rt))),
+    };
+    ExitCode::from(exit.number())
 }
 
 #[cfg(test)]

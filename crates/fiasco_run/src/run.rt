@@ -1,5 +1,5 @@
 // `run`: from a source to the run of the script that its bytes spell.
-ghost use Rattle.std.specs.Prelude.{◌≡◌, ◌≤◌, length, None, IfErr, IfOk};
+ghost use Rattle.std.specs.Prelude.{◌≡◌, ◌≤◌, ◌⊎◌, length, None, Err, IfErr, IfOk};
 ghost use Rattle.k_input.specs.Taken.{IsPartTaken};
 ghost use Rattle.k_reader.specs.Refused.{script_fault};
 ghost use Rattle.fiasco_run.specs.Scripts.{IsRefusedBy, IsScriptOf, input_exit, run_fault};
@@ -54,6 +54,7 @@ pub(crate) fn run_source<S: Source>(alloc: Global, source: &mut S) -> Result<Run
     ensures status { IfErr result (IsRunStatus (S.left source.old) (S.faults source.old) (S.faults source.new)) }
     ensures all { IfOk result (λ _. TakesAll (S.left source.old) (S.left source.new)) }
     ensures takes { IfErr result (λ exit. TakesStatus call.Run exit (S.left source.old) (S.left source.new)) }
+    ensures calm { result ≡ Err Exit.ReadFault ⊎ S.faults source.new ≡ S.faults source.old }
     ensures later { S.faults source.old ≤ S.faults source.new }
 {
     match read_all(alloc, source) {

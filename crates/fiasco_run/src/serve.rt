@@ -7,17 +7,17 @@ ghost use Rattle.k_history.specs.declared.verdict.Verdict.TheVariants as verdict
 ghost use Rattle.fiasco_run.specs.Calls.{call_of};
 ghost use Rattle.fiasco_run.specs.Exits.{exit_text};
 ghost use Rattle.fiasco_run.specs.Due.{ComesTo};
-ghost use Rattle.fiasco_run.specs.Served.{IsExact, IsPut, IsPutText, IsServed, TakesFor};
+ghost use Rattle.fiasco_run.specs.Served.{IsCalm, IsExact, IsPut, IsPutText, IsServed, TakesFor};
 ghost use Rattle.fiasco_run.specs.Headline.{ReportsRun, ReportsLegal};
 ghost use Rattle.fiasco_run.specs.declared.call.Call.TheVariants as call;
 
 use crate::call::{Call, call_of};
 use crate::check::check_source;
 use crate::due::Due;
-use crate::exit::Exit;
+use crate::exit::{Exit, put_line};
 use crate::run::run_source;
 use k_history::{RunParts, Verdict, report};
-use k_outside::{Sink, Source, put_all};
+use k_outside::{Sink, Source};
 use k_play::RunEnd;
 use std::alloc::Global;
 
@@ -37,17 +37,6 @@ fn put_report<K: Sink>(end: &RunEnd, sink: &mut K) -> Exit
     }
 }
 
-/// Puts the line of a status.
-pub(crate) fn put_line<K: Sink>(exit: Exit, line: &[u8], sink: &mut K) -> Exit
-    ensures put { IsPutText result exit line.now (K.held sink.old) (K.held sink.new) (K.faults sink.old) (K.faults sink.new) }
-    ensures later { K.faults sink.old ≤ K.faults sink.new }
-{
-    match put_all(sink, line) {
-        Ok(()) => exit,
-        Err(_) => Exit::WriteFault,
-    }
-}
-
 /// Puts what is due, and answers its status.
 fn put_due<K: Sink>(due: &Due, sink: &mut K) -> Exit
     ensures put { IsPut result due.now (K.held sink.old) (K.held sink.new) (K.faults sink.old) (K.faults sink.new) }
@@ -57,9 +46,9 @@ fn put_due<K: Sink>(due: &Due, sink: &mut K) -> Exit
         Due::Report(end) => put_report(end, sink),
         Due::Legal(events) => {
             let verdict = Verdict::Legal { events: *events };
-            put_line(Exit::Done, verdict.line().as_bytes(), sink)
+            put_line(Exit::Done, &verdict.line(), sink)
         }
-        Due::Status(exit) => put_line(*exit, exit.line().as_bytes(), sink),
+        Due::Status(exit) => exit.put(sink),
     }
 }
 
@@ -67,6 +56,7 @@ fn put_due<K: Sink>(due: &Due, sink: &mut K) -> Exit
 fn due<S: Source>(alloc: Global, words: &[String], source: &mut S) -> Due
     ensures cause { ComesTo (call_of (map string_bytes words.now)) (S.left source.old) (S.faults source.old) (S.faults source.new) result }
     ensures takes { TakesFor (call_of (map string_bytes words.now)) result (S.left source.old) (S.left source.new) }
+    ensures calm { IsCalm result (S.faults source.old) (S.faults source.new) }
     ensures later { S.faults source.old ≤ S.faults source.new }
 {
     match call_of(words) {
@@ -90,7 +80,7 @@ fn due<S: Source>(alloc: Global, words: &[String], source: &mut S) -> Due
 ///
 /// The causes are tried in this order: words that are not served, a fault of the source, too many bytes, the first bad line,
 /// a script that is too long, for `run` a line that can't be run yet, want of memory, a fault of the sink. Want of memory
-/// while reading stands where it comes.
+/// while reading stands where it comes. A source or sink that failed isn't asked again, but for the text of a read fault.
 pub fn top<S: Source, K: Sink>(
     alloc: Global,
     words: &[String],
@@ -106,6 +96,8 @@ pub fn top<S: Source, K: Sink>(
 
     // Exactly where: the status is the one that the bytes call for, unless there was no memory or the outside failed.
     ensures exact { IsExact (call_of (map string_bytes words.now)) result (S.left source.old) (Rose (S.faults source.old) (S.faults source.new)) (Rose (K.faults sink.old) (K.faults sink.new)) }
+    // It is done only where neither the source nor the sink failed.
+    ensures done { result ≡ Exit.Done → (S.faults source.new ≡ S.faults source.old) × (K.faults sink.new ≡ K.faults sink.old) }
     ensures later { (S.faults source.old ≤ S.faults source.new) × (K.faults sink.old ≤ K.faults sink.new) }
 {
     let due = due(alloc, words, source);

@@ -1,5 +1,5 @@
 // Reading a source.
-ghost use Rattle.std.specs.Prelude.{◌≡◌, ◌≤◌, ◌<◌, length, IfOk, Err, MatchResult};
+ghost use Rattle.std.specs.Prelude.{◌≡◌, ◌≢◌, ◌≤◌, ◌<◌, length, IfOk, Err, MatchResult};
 ghost use Rattle.k_outside.specs.Outside.{Rose};
 ghost use Rattle.k_input.specs.Taken.{IsAll, IsPartTaken, IsTooMuch};
 ghost use Rattle.k_input.specs.Division.{script_part, IsInputLarge, IsInputTooLarge};
@@ -13,12 +13,13 @@ use std::alloc::Global;
 const BUFFER: usize = 4096;
 
 /// Reads all bytes that the source has left, or one more than a script may have. Where it fails, or there is no memory, some
-/// of them were taken.
+/// of them were taken. A source that failed isn't asked again.
 pub fn read_all<S: Source>(alloc: Global, source: &mut S) -> Result<Vec<u8>, InputFault>
     ensures all { IfOk result (λ bytes. IsAll (S.left source.old) (S.left source.new) bytes.items) }
     ensures small { IfOk result (λ bytes. length bytes.items ≤ 1048576) }
     ensures too_large { result ≡ Err InputFault.TooLarge → IsTooMuch (S.left source.old) (S.left source.new) }
     ensures cause { result ≡ Err InputFault.Source → Rose (S.faults source.old) (S.faults source.new) }
+    ensures calm { result ≢ Err InputFault.Source → S.faults source.new ≡ S.faults source.old }
     ensures part { IsPartTaken 1048577 (S.left source.old) (S.left source.new) }
     ensures later { S.faults source.old ≤ S.faults source.new }
 {
@@ -42,11 +43,13 @@ pub fn read_all<S: Source>(alloc: Global, source: &mut S) -> Result<Vec<u8>, Inp
 /// The bytes of an input of `check`, read to its end: a script, a line that is `--`, and the lines of a history. It stops at
 /// the first byte with which the script surely has more than 1,048,576 bytes, or the whole more than 135,266,304. A last
 /// line that may still become `--` is no script yet. Where the source fails, or there is no memory, some bytes were taken.
+/// A source that failed isn't asked again.
 pub fn read_divided<S: Source>(alloc: Global, source: &mut S) -> Result<Vec<u8>, InputFault>
     ensures all { IfOk result (λ bytes. IsAll (S.left source.old) (S.left source.new) bytes.items) }
     ensures small { IfOk result (λ bytes. ¬ IsInputLarge bytes.items) }
     ensures too_large { result ≡ Err InputFault.TooLarge → IsInputTooLarge (S.left source.old) (S.left source.new) }
     ensures cause { result ≡ Err InputFault.Source → Rose (S.faults source.old) (S.faults source.new) }
+    ensures calm { result ≢ Err InputFault.Source → S.faults source.new ≡ S.faults source.old }
     ensures part { IsPartTaken 135266305 (S.left source.old) (S.left source.new) }
     ensures later { S.faults source.old ≤ S.faults source.new }
 {

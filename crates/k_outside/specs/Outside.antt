@@ -1,14 +1,16 @@
 -- What a source gives, what a sink takes, and when either fails.
-use Rattle.std.specs.Prelude.{ℕ, ◌≡◌, ◌≤◌, ◌+◌, ◌-◌, ◌^◌, min, List, [], ◌++◌, length, take, drop, Option, Some, IfSome, Result, MatchResult, OnErr}
+use Rattle.std.specs.Prelude.{ℕ, ◌≡◌, ◌≤◌, ◌+◌, ◌-◌, ◌^◌, min, List, [], ◌++◌, length, take, drop, Option, Some, IfSome, Result, MatchResult, IfOk, OnErr}
 
 -- A count rose. One that stands at the end of its type counts as risen.
 abbrev pub Rose : ℕ → ℕ → Type 0
 Rose before now = min (before + 1) (2 ^ 64 - 1) ≤ now
 
--- The count of faults never falls, and a fault comes only where it rose.
+-- The count of faults never falls. It rose where the call failed, and stands as it was where the call didn't: so a fault that
+-- was tried again is a fault, too.
 pub record HasCause {T E : Type 0} (before now : ℕ) (result : Result T E) : Type 0 where
   pub later : before ≤ now
   pub failed : OnErr result (Rose before now)
+  pub calm : IfOk result (λ _. now ≡ before)
 
 -- k bytes came into the front of a buffer: the next k bytes of what was left. The rest of it is left.
 -- No byte comes only where none was left.

@@ -16,7 +16,7 @@ pub trait Source {
 
     /// Takes the next bytes into the front of a buffer that isn't empty, and gives how many came: 0 exactly where none is
     /// left. What stands in the buffer behind them may have changed. `Failed` comes only where the count of faults rose,
-    /// and takes nothing; the buffer may have changed.
+    /// and takes nothing; the buffer may have changed. After `Ok` the count is as it was.
     fn take(&mut self, into: &mut [u8]) -> Result<usize, Failed>
         requires { 0 < length into.old }
         ensures bound { IfOk result (λ k. k ≤ length into.old) }
@@ -33,7 +33,7 @@ pub trait Sink {
     ghost faults: { Self → ℕ };
 
     /// Appends the front of a piece that isn't empty, and gives how many bytes of it: at least one. `Failed` comes only
-    /// where the count of faults rose, and appends nothing.
+    /// where the count of faults rose, and appends nothing. After `Ok` the count is as it was.
     fn put(&mut self, piece: &[u8]) -> Result<usize, Failed>
         requires { 0 < length piece.now }
         ensures some { IfOk result (λ k. 0 < k) }

@@ -2,8 +2,8 @@
 //
 // They are the trusted edge: nothing is claimed of what the system's streams give or take. What is proved is that the
 // adapters themselves lose, change or add nothing, over any reader and writer.
-ghost use Rattle.std.specs.Prelude.{◌≡◌, ◌≤◌, ◌<◌, length, IfOk, is_err, if◌then◌else◌};
-ghost use Rattle.k_outside.specs.Outside.{HasCause, Puts, Takes};
+ghost use Rattle.std.specs.Prelude.{◌≡◌, ◌≤◌, ◌<◌, [], length, IfOk, is_err, if◌then◌else◌};
+ghost use Rattle.k_outside.specs.Outside.{Appends, HasCause, Puts, Takes};
 ghost use Rattle.k_outside.specs.Memory.{one_more};
 
 use crate::source::{Failed, Sink, Source};
@@ -62,6 +62,22 @@ impl<W: Write> StdSink<W> {
         ensures none { result.faults ≡ 0 }
     {
         StdSink { writer, faults: 0 }
+    }
+
+    /// Sends on what the writer has held back, and fails exactly where the writer can't. No clause says this, since a writer
+    /// tells nothing of its calls. No byte is appended, and a failure is counted.
+    pub fn flush(&mut self) -> Result<(), Failed>
+        ensures bytes { Appends (W.contents self.old.writer) (W.contents self.new.writer) [] }
+        ensures cause { HasCause self.old.faults self.new.faults result }
+        ensures count { self.new.faults ≡ (if is_err result then one_more 64 self.old.faults else self.old.faults) }
+    {
+        match self.writer.flush() {
+            Ok(()) => Ok(()),
+            Err(_) => {
+                self.faults = self.faults.saturating_add(1);
+                Err(Failed)
+            }
+        }
     }
 }
 

@@ -38,7 +38,7 @@ pub loop-buffer-smaller : goal.loop-buffer-smaller
 loop-buffer-smaller g c = omega (arith, (more g c).more, (more g c).within)
 
 pub loop-buffer-preserved : goal.loop-buffer-preserved
-loop-buffer-preserved g c = ((more g c).taken, (more g c).divides, (more g c).just, (more g c).within, omega (arith, c.loop-buffer.invariant.4, c.in-Ok.ensures.cause.later))
+loop-buffer-preserved g c = ((more g c).taken, (more g c).divides, (more g c).just, (more g c).within, c.in-Ok.ensures.cause.calm ∙ c.loop-buffer.invariant.4)
 
 pub returns-clause-too_large : goal.returns-clause-too_large
 returns-clause-too_large g c = λ _. stops_large _ _ c.loop-buffer.bytes.items c.loop-buffer.divider c.loop-buffer.invariant.0 c.loop-buffer.invariant.1 (sym c.is_large.ensures ∙ c.loop-buffer-test.false) c.loop-buffer.invariant.2

@@ -10,7 +10,7 @@ invariant-loop-buffer g l =
     × Divides l.bytes.items l.divider
     × ((start : List ℕ) (b : ℕ) → l.bytes.items ≡ start ++ b ∷ [] → ¬ IsSurelyLarge start)
     × (l.divider.len ≤ 135266305)
-    × (g.S.Source.faults l.initial.source ≤ g.S.Source.faults l.source)
+    × (g.S.Source.faults l.source ≡ g.S.Source.faults l.initial.source)
 
 abbrev pub decreases-loop-buffer : goal.decreases-loop-buffer
 decreases-loop-buffer g l = 135266305 - l.divider.len

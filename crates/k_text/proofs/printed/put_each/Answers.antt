@@ -1,4 +1,4 @@
-use Rattle.std.proofs.Common.{ℕ, List, arith, take, drop, ◌+◌, ◌++◌, ◌≡◌, ◌∙◌, sym, ap, subst}
+use Rattle.std.proofs.Common.{ℕ, List, take, drop, ◌+◌, ◌++◌, ◌≡◌, ◌∙◌, sym, ap, subst}
 use Rattle.std.specs.List.{flat_map}
 use Rattle.std.proofs.lemmas.Result.{err_from_is_err_and}
 use Rattle.k_outside.specs.Outside.{Appends, AppendsFront}
@@ -29,5 +29,5 @@ loop-item-preserved g c =
     let b = g.K.Sink.held c.loop-item.sink in
     let d = g.K.Sink.held c.put_line.new.sink in (
       subst (λ (t : List ℕ). Appends a d t) (sym (text_more f xs i x c.loop-item-test.true c.item-item.is)) (appends_more a b d (flat_map f (take i xs)) (f x) c.loop-item.invariant.0 c.in_ok-put_line.ensures.bytes),
-      omega (arith, c.loop-item.invariant.1, c.in_ok-put_line.ensures.cause.later),
+      c.in_ok-put_line.ensures.cause.calm ∙ c.loop-item.invariant.1,
     )

@@ -24,7 +24,11 @@ text=$("$program" check < "$top"); status=$?
 ends 'an input of check that cannot be read' $status 3 "$text" 'read fault'
 
 "$program" run < "$script" > /dev/full; status=$?
-ends 'an output that takes no report' $status 4 '' ''
+ends 'an output that takes no report, found when the buffer is sent on' $status 4 '' ''
+
+printf 'kernel 1\ntable 2\nprogram a\nrepeat 1000\nsend #1 7 8\nagain\nend\nprogram b\nrepeat 1000\nreceive #0\nagain\nend\nthread 10 a\nthread 20 b\n' |
+    "$program" run > /dev/full; status=$?
+ends 'an output that takes no report, found when the buffer is full' $status 4 '' ''
 
 "$program" check < "$top/examples/call-history.check" > /dev/full; status=$?
 ends 'an output that takes no verdict' $status 4 '' ''

@@ -1,0 +1,4 @@
+pub mod Waits
+pub mod Report
+pub mod Totals
+pub mod Putting

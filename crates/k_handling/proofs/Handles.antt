@@ -127,6 +127,9 @@ module _ (now : Moment) where
     hands =
         λ d far. ap (λ (x : tokens.Carrier). x.hand) (upd_other view.carrier K.number j d (apart d far))
         ∙ k.whole.hands d far;
+    starts =
+        λ d t far. ap (λ (x : tokens.Carrier). x.starts t) (upd_other view.carrier K.number j d (apart d far))
+        ∙ k.whole.starts d t far;
     owns = k.whole.owns;
   }
     where

@@ -30,7 +30,7 @@ use Rattle.k_whole.specs.Whole.{WholeHolds}
 use Rattle.k_whole.proofs.Wholes.{slice_stays, start_stays}
 use Rattle.k_kernel.specs.Serials.{SerialsHold}
 use Rattle.k_handling.specs.Handling.{HasKernel}
-use Rattle.k_handling.proofs.Handles.{Moment, each, given, number_is, same_count, viewed, whole_stays}
+use Rattle.k_handling.proofs.Handles.{Moment, each, given, in_view, number_is, same_count, viewed, whole_stays}
 
 module _ (now : Moment) where
   open now use {script, limits, w, b, view, state, k, c, low}
@@ -202,5 +202,5 @@ module _ (now : Moment) where
         (maps_started c number w) (started_shown script w b k.aligned.shows c number) refl
         (length-set w.unstarted number false ∙ k.aligned.numbers) (rules.started view c number)
         (ap (λ (x : tokens.World). x.carrier) world_is) (ap (λ (x : tokens.World). x.unmade) world_is) refl
-        (start_stays script limits b view w.history state k.whole c number
+        (start_stays script limits b view w.history state k.whole c number (in_view now)
         (ap (λ (f : ℕ → Bool). f number) k.aligned.unstarted ∙ due))

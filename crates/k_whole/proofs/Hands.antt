@@ -16,7 +16,7 @@ use Rattle.k_switching.specs.Rules.{Target, Helped, ItsOwn, ItsGoals, beginning,
 use Rattle.k_switching.specs.Rules.{carrier_step, carrier_step_by, given, given_own, gives}
 use Rattle.k_switching.specs.Rules.{hand_step, has_switched, context_step, parked, sliced, started, take_step}
 use Rattle.k_switching.specs.Rules.{taken, taken_goal, taken_own, target_of, target_step, taken_as_it_is}
-use Rattle.k_whole.specs.Whole.{HandsWithin}
+use Rattle.k_whole.specs.Whole.{HandsWithin, StartsWithin}
 
 -- there are as many carriers, and all but this one are as they were
 pub record IsOfOne (c : ℕ) (w v : World) : Type 0 where
@@ -135,12 +135,14 @@ module _ (c : ℕ) where
 some_not : {A : Type 0} {o : Option A} {x : A} → o ≡ None → o ≡ Some x → ⊥
 some_not e f = cc
 
+apart : (w : World) (c d : ℕ) → c < w.carriers → w.carriers ≤ d → d ≢ c
+apart w c d low far e = omega (arith, e, low, far)
+
 pub hands_stay : (w : World) (c : ℕ) (s : ThreadStep) → c < w.carriers → HandsWithin w → HandsWithin (carrier_step w c s)
 hands_stay w c s low h d far =
     let k = step_one c w s in
     let beyond : w.carriers ≤ d = subst (λ (n : ℕ). n ≤ d) k.carriers far in
-    let apart : d ≢ c = (λ (e : d ≡ c). (let low2 = low in let b2 = beyond in omega (arith, e, low2, b2))) in
-    ap (λ (x : Carrier). x.hand) (k.others d apart) ∙ h d beyond
+    ap (λ (x : Carrier). x.hand) (k.others d (apart w c d low beyond)) ∙ h d beyond
 
 -- a carrier with a context in hand is one of those that there are
 pub hand_within : (w : World) (c : ℕ) (x : ContextName) → HandsWithin w → (w.carrier c).hand ≡ Some x → c < w.carriers
@@ -165,3 +167,23 @@ module _ (w : World) (c : ℕ) (h : HandsWithin w) where
 
   pub parked_hands : HandsWithin (parked w c)
   parked_hands = same_hands w (parked w c) refl (changed_hand w c _ refl) h
+
+-- STARTS
+
+pub starts_left : (w v : World) (c : ℕ) → c < w.carriers → IsOfOne c w v → StartsWithin w → StartsWithin v
+starts_left w v c low k h d t far =
+    let beyond : w.carriers ≤ d = subst (λ (n : ℕ). n ≤ d) k.carriers far in
+    ap (λ (x : Carrier). x.starts t) (k.others d (apart w c d low beyond)) ∙ h d t beyond
+
+pub starts_stay : (w : World) (c : ℕ) (s : ThreadStep) → c < w.carriers → StartsWithin w → StartsWithin (carrier_step w c s)
+starts_stay w c s low h = starts_left w (carrier_step w c s) c low (step_one c w s) h
+
+pub started_starts : (w : World) (c t : ℕ) → c < w.carriers → StartsWithin w → StartsWithin (started w c t)
+started_starts w c t low h = starts_left w (started w c t) c low (one c w (started w c t) _ refl refl) h
+
+-- who has the same starts as before
+pub same_starts : (w : World) (c : ℕ) (k : Carrier) → k.starts ≡ (w.carrier c).starts → StartsWithin w →
+    StartsWithin (with_carrier w c k)
+same_starts w c k e h d t far =
+    upd_cases (λ (x : Carrier). x.starts t ≡ false) w.carrier c k d
+    (λ q. ap (λ (f : ℕ → Bool). f t) e ∙ h c t (subst (λ (n : ℕ). w.carriers ≤ n) q far)) (λ _. h d t far)

@@ -32,7 +32,7 @@ use Rattle.k_paired.specs.Pairs.{IsPair}
 use Rattle.k_paired.proofs.Pairs.{begin_pair, end_pair, pair_begins, still_pair, switch_pair, thread_pair, wake_pair}
 use Rattle.k_whole.specs.Whole.{IsBeginning, IsStepOf, OwnsThere, Step, WholeGoesOn, WholeHolds, step_point}
 use Rattle.k_whole.specs.Whole.{begins_switch, ends_switch, runs, stays, switches, wakes}
-use Rattle.k_whole.proofs.Hands.{hands_stay, parked_hands, sliced_hands, started_hands}
+use Rattle.k_whole.proofs.Hands.{hands_stay, parked_hands, same_starts, sliced_hands, started_hands, started_starts, starts_stay}
 use Rattle.k_whole.proofs.Owns.{not_nowhere, owns_left, owns_moved, owns_stay}
 
 module _ (script : Script) (limits : IsScript script) where
@@ -44,6 +44,7 @@ module _ (script : Script) (limits : IsScript script) where
     holds = board_starts script limits b h.board;
     pair = pair_begins (ranged_programs script) b o f.booted f.free f.agree f.count (names_fit b h.board.size) h.low h.world;
     hands = λ d l. refl;
+    starts = λ d t l. refl;
     owns = λ d l. not_nowhere (b.context (b.size + d)).at Resting (h.owns d l) (λ z. cc);
   }
 
@@ -71,6 +72,7 @@ module _ (script : Script) (limits : IsScript script) (b : Board) (w : World) (e
             holds = subst (λ (p : Option Point). BoardHolds script b' (es ++ entries_of b p) g.new) e g.holds;
             pair = pair;
             hands = hands_stay w c step low h.hands;
+            starts = starts_stay w c step low h.starts;
             owns = owns;
           };
         }
@@ -111,19 +113,21 @@ module _ (script : Script) (limits : IsScript script) (b : Board) (w : World) (e
             still_pair G b w h.pair (carrier_step w c FindsTaken)
             (step_good w c FindsTaken h.pair.world low (λ t a. absurd (nobody _ a))) still;
         hands = hands_stay w c FindsTaken low h.hands;
+        starts = starts_stay w c FindsTaken low h.starts;
         owns = owns_stay b w c FindsTaken h.owns;
       };
     }
 
   -- FROM OUTSIDE
 
-  pub start_stays : (c t : ℕ) → w.unmade t ≡ true → WholeHolds script b (started w c t) es k
-  start_stays c t u = record {
+  pub start_stays : (c t : ℕ) → c < w.carriers → w.unmade t ≡ true → WholeHolds script b (started w c t) es k
+  start_stays c t low u = record {
     holds = h.holds;
     pair =
         still_pair G b w h.pair (started w c t) (started_good w c t h.pair.world u)
         (record { threads = refl; ready = refl; lists = refl; running = refl; own = refl });
     hands = started_hands w c h.hands t;
+    starts = started_starts w c t low h.starts;
     owns = h.owns;
   }
 
@@ -134,6 +138,7 @@ module _ (script : Script) (limits : IsScript script) (b : Board) (w : World) (e
         still_pair G b w h.pair (sliced w c) (sliced_good w c h.pair.world)
         (record { threads = refl; ready = refl; lists = refl; running = refl; own = refl });
     hands = sliced_hands w c h.hands;
+    starts = same_starts w c _ refl h.starts;
     owns = h.owns;
   }
 
@@ -144,5 +149,6 @@ module _ (script : Script) (limits : IsScript script) (b : Board) (w : World) (e
         still_pair G b w h.pair (parked w c) (parked_good w c h.pair.world)
         (record { threads = refl; ready = refl; lists = refl; running = refl; own = refl });
     hands = parked_hands w c h.hands;
+    starts = same_starts w c _ refl h.starts;
     owns = h.owns;
   }

@@ -1,5 +1,5 @@
 -- The kernel whole: a board with the history that was made on the way to it, and the carriers that make the steps.
-use Rattle.std.specs.Prelude.{◌≡◌, ◌≢◌, ℕ, ◌+◌, ◌<◌, ◌≤◌, true, Option, Some, None, List, ◌++◌}
+use Rattle.std.specs.Prelude.{◌≡◌, ◌≢◌, ℕ, ◌+◌, ◌<◌, ◌≤◌, true, false, Option, Some, None, List, ◌++◌}
 use Rattle.k_ids.specs.declared.histories.Entry.{Entry}
 use Rattle.k_model.specs.Maps.{lowest}
 use Rattle.k_model.specs.State.{KernelState}
@@ -34,6 +34,10 @@ use Rattle.k_paired.specs.Pairs.{IsPair, IsStill}
 abbrev pub HandsWithin : World → Type 0
 HandsWithin w = (d : ℕ) → w.carriers ≤ d → (w.carrier d).hand ≡ None
 
+-- Nobody has a start to come but the carriers that there are.
+abbrev pub StartsWithin : World → Type 0
+StartsWithin w = (d t : ℕ) → w.carriers ≤ d → (w.carrier d).starts t ≡ false
+
 -- Each carrier has its own context on the board.
 abbrev pub OwnsThere : Board → World → Type 0
 OwnsThere b w = (d : ℕ) → d < w.carriers → (b.context (b.size + d)).at ≢ Nowhere
@@ -43,6 +47,7 @@ pub record WholeHolds (script : Script) (b : Board) (w : World) (entries : List 
   pub holds : BoardHolds script b entries k
   pub pair : IsPair (ranged_programs script) b w
   pub hands : HandsWithin w
+  pub starts : StartsWithin w
   pub owns : OwnsThere b w
 
 -- The board and the world in which the kernel begins to run a script.

@@ -45,7 +45,8 @@ pub fn every_step_of_every_carrier_keeps_the_whole()
         → IsScript script → WholeHolds script b w entries k → c < w.carriers → (s : Step (ranged_programs script) b w c b')
         → WholeGoesOn script b w entries k c b' s }
     ensures start { (script : Script) (b : Board) (w : World) (entries : List Entry) (k : KernelState) (c t : ℕ)
-        → IsScript script → WholeHolds script b w entries k → w.unmade t ≡ true → WholeHolds script b (started w c t) entries k }
+        → IsScript script → WholeHolds script b w entries k → c < w.carriers → w.unmade t ≡ true
+        → WholeHolds script b (started w c t) entries k }
     ensures slice { (script : Script) (b : Board) (w : World) (entries : List Entry) (k : KernelState) (c : ℕ)
         → IsScript script → WholeHolds script b w entries k → WholeHolds script b (sliced w c) entries k }
     ensures park { (script : Script) (b : Board) (w : World) (entries : List Entry) (k : KernelState) (c : ℕ)

@@ -5,7 +5,7 @@ pub returns-clause-step : goal.returns-clause-step
 returns-clause-step c = λ script b b' w es k n limits h low s. whole_goes_on script limits b w es k h n low b' s
 
 pub returns-clause-start : goal.returns-clause-start
-returns-clause-start c = λ script b w es k n t limits h u. start_stays script limits b w es k h n t u
+returns-clause-start c = λ script b w es k n t limits h low u. start_stays script limits b w es k h n t low u
 
 pub returns-clause-slice : goal.returns-clause-slice
 returns-clause-slice c = λ script b w es k n limits h. slice_stays script limits b w es k h n

@@ -35,7 +35,7 @@ pub record IsCarried (script : Script) (w w' : World) : Type 0 where
   pub links : w'.waits.links ≡ w.waits.links
 
 -- without the help a mark stands all the same
-without_help : {S : Type 0} (k : Sections S) (s : S) (r : ℕ) (help : Option bound.OwnerFound) (mark : bound.WaitMark) →
+pub without_help : {S : Type 0} (k : Sections S) (s : S) (r : ℕ) (help : Option bound.OwnerFound) (mark : bound.WaitMark) →
     IsMarkSound k s r help (Some mark) → IsMarkSound k s r None (Some mark)
 without_help k s r help mark ok = let st = ok.1 in (
   ok.0,

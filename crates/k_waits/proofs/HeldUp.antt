@@ -43,7 +43,7 @@ use Rattle.k_sections.specs.Situations.{holder_of, itself, want_at}
 use Rattle.k_sections.specs.Stepping.{acquired, board_after, removed_by, response_to}
 use Rattle.k_sections.proofs.Answered.{holder_is, some_is}
 
-own_there : {A : Type 0} (f : ℕ → A) (n : ℕ) → upd f n (f n) ≡ f
+pub own_there : {A : Type 0} (f : ℕ → A) (n : ℕ) → upd f n (f n) ≡ f
 own_there f n = λ d u. point u d
   where
     point : (u : ℕ) → upd f n (f n) u ≡ f u
@@ -125,12 +125,12 @@ module _ (g : Programs) (b : Board) (i o : ℕ) where
   by_want P (asks.Release l) w e h lock gone = absurd cc
   by_want P (asks.Place id program priority) w e h lock gone = absurd cc
 
-  removes_is : (c : DestroyCall) (p : DestroyAt) (id : ThreadId) → destroy.ask_of c X.own p ≡ asks.Remove id →
+  pub removes_is : (c : DestroyCall) (p : DestroyAt) (id : ThreadId) → destroy.ask_of c X.own p ≡ asks.Remove id →
       p ≡ destroy.Locked destroy_locked.RemoveContext
   removes_is c (destroy.Locked destroy_locked.RemoveContext) id e = refl
   removes_is c p id e = absurd (grind (arith, common_steps, e))
 
-  kept_still : (c : DestroyCall) (p : DestroyAt) (id : ThreadId) → X.at ≡ InDestroy c p →
+  pub kept_still : (c : DestroyCall) (p : DestroyAt) (id : ThreadId) → X.at ≡ InDestroy c p →
       destroy.ask_of c X.own p ≡ asks.Remove id → destroy_board g b i X c p asks.Kept ≡ b
   kept_still c p id at e =
       let q = removes_is c p id e in

@@ -1,7 +1,7 @@
 -- Who holds up what, on a board, by the words and the contexts of the world that shows it.
-use Rattle.std.proofs.Common.{◌≡◌, ℕ, Bool, true, false, refl, sym, ap, ◌∙◌, subst, Option, Some, None, arith}
+use Rattle.std.proofs.Common.{◌≡◌, ℕ, Bool, true, false, refl, sym, ap, ◌∙◌, subst, Option, Some, None, List, [], ◌∷◌, arith}
 use Rattle.std.proofs.lemmas.Bool.Decides.{nat_tests}
-use Rattle.k_ids.specs.declared.context_word.ContextWord.TheVariants.{Holds as HoldsOne}
+use Rattle.k_ids.specs.declared.context_word.ContextWord.TheVariants.{Clean, Empty, Holds as HoldsOne}
 use Rattle.k_ids.specs.declared.lock_word.LockWord.TheVariants as locked
 use Rattle.k_ids.specs.ContextWords.{context_word_of}
 use Rattle.k_ids.specs.LockWords.{lock_word_of}
@@ -9,26 +9,31 @@ use Rattle.k_locks.specs.declared.locks.Lock.{Lock}
 use Rattle.k_locks.specs.declared.locks.Lock.TheVariants as lock
 use Rattle.k_locks.specs.Asks.{want_for}
 use Rattle.k_locks.specs.Asks as asks
-use Rattle.k_locks.specs.Locks.{Holds}
+use Rattle.k_locks.specs.Locks.{Holds, lowest_held}
 use Rattle.k_locks.specs.Places.{IsLock, lock_number}
 use Rattle.k_script.specs.Script.{Script}
 use Rattle.k_context.specs.Contexts.{ContextSeen, locks_of}
 use Rattle.k_carrier.specs.Rules.{holds_any, holds_lock, still_holds}
 use Rattle.k_world.specs.Worlds.{Away, Guarded, Resting, Slot, resting_in}
-use Rattle.k_board.specs.Boards.{Board, owner_of}
+use Rattle.k_board.specs.Boards.{Board, Nowhere, owner_of}
 use Rattle.k_good.specs.Locks.{locks_at, owner_by}
 use Rattle.k_good.proofs.Owners.{Named}
 use Rattle.k_places.specs.Contexts.{ShowsContext}
 use Rattle.k_places.specs.Memory.{Memory}
 use Rattle.k_places.specs.Shows.{Rests, Shows, Stands, context_by, context_in, owner_in}
 use Rattle.k_places.proofs.Guarded.{locks_by, ranked_at}
-use Rattle.k_sections.specs.Situations.{holder_of}
+use Rattle.k_sections.specs.Situations.{holder_of, itself}
 use Rattle.k_sections.proofs.Answered.{held_owned, holder_is}
 use Rattle.k_sections.proofs.Moved.{holds_itself}
 use Rattle.k_waits.specs.Words.{want_helped}
 use Rattle.k_waits.proofs.Published.{any_lowest, locks_shown}
 
 -- THE LOCKS THAT A CONTEXT HOLDS
+
+pub none_lowest : (ls : List (Option Lock)) → holds_any ls ≡ false → lowest_held ls ≡ None
+none_lowest [] e = refl
+none_lowest (Some l ∷ ls) e = absurd cc
+none_lowest (None ∷ ls) e = none_lowest ls e
 
 by_ranks : (t : Bool) (n : Option ℕ) (r : Bool) (l : Lock) → holds_lock l (locks_by t n r) ≡ true → Holds l (locks_by t n r)
 by_ranks true None r lock.Table e = refl
@@ -62,7 +67,7 @@ module _ (b : Board) (named : Named b) (i : ℕ) where
       let r = ranked_at (b.context i).at in
       subst (Holds l) (sym r.is) (by_ranks r.table r.thread r.ready l (ap (holds_lock l) (sym r.is) ∙ e))
 
-  any_holds : holds_any (locks_at (b.context i).at) ≡ true → holder_of b (asks.Context i) ≡ Some i
+  pub any_holds : holds_any (locks_at (b.context i).at) ≡ true → holder_of b (asks.Context i) ≡ Some i
   any_holds e = holds_itself b named i (any_lowest (locks_at (b.context i).at) e)
 
   -- who still holds what it is helped for holds that up
@@ -120,3 +125,22 @@ module _ (script : Script) (m : Memory) (b : Board) (named : Named b) (sh : Show
       holder_of b (asks.Context n) ≡ Some n
   kept_holder n version e =
       let r = holds_there n version e in any_holds b named n (ap holds_any r.locks ∙ r.holding)
+
+  pub clean_there : (n version : ℕ) → context_word_of (m.context n) ≡ Clean version → IsResting n false version
+  clean_there n version e =
+      resting_by n false version (m.slot n) refl (subst (Stands m.slot m.hand n) e (sh.places.stands n))
+      (ap (context_by m.slot m.hand n) e)
+
+  -- one that rests without a lock holds up nobody
+  pub clean_holder : (n version : ℕ) → context_word_of (m.context n) ≡ Clean version → holder_of b (asks.Context n) ≡ None
+  clean_holder n version e =
+      let r = clean_there n version e in
+      ap (itself n) (none_lowest (locks_at (b.context n).at) (ap holds_any r.locks ∙ r.holding))
+
+  -- nor does one that isn't there
+  pub empty_holder : (n : ℕ) → context_word_of (m.context n) ≡ Empty → holder_of b (asks.Context n) ≡ None
+  empty_holder n e =
+      let none : context_in m.context m.slot m.hand n ≡ None = ap (context_by m.slot m.hand n) e in
+      let at : (b.context n).at ≡ Nowhere =
+      subst (λ (o : Option ContextSeen). ShowsContext (b.seen n).word n o (b.context n)) none (sh.contexts n) in
+      ap (λ p. itself n (lowest_held (locks_at p))) at

@@ -1,11 +1,11 @@
-mod Logs
-mod HeldUp
-mod Turns
-mod Published
-mod Courses
-mod Holders
-mod Asking
-mod Others
-mod Carried
-mod Outside
-mod Owed
+pub mod Logs
+pub mod HeldUp
+pub mod Turns
+pub mod Published
+pub mod Courses
+pub mod Holders
+pub mod Asking
+pub mod Others
+pub mod Carried
+pub mod Outside
+pub mod Owed

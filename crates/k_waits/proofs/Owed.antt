@@ -89,15 +89,15 @@ told_on u v s told.Released e = cc
 told_on u v s told.Placed e = cc
 told_on u v s told.Removed e = cc
 
-onward_is : (u v : ContextSeen) (s : Step) (a : Answer) → course_by u s a ≡ Onward v → u ≡ v
+pub onward_is : (u v : ContextSeen) (s : Step) (a : Answer) → course_by u s a ≡ Onward v → u ≡ v
 onward_is u v s (answered.Got goods) e = cc
 onward_is u v s (answered.Told t) e = told_on u v s t e
 
-look_still : (o : Option HandSeen) (n : ℕ) (a : AnswerSeen) → course_of o (move.Look n) a ≡ Still
+pub look_still : (o : Option HandSeen) (n : ℕ) (a : AnswerSeen) → course_of o (move.Look n) a ≡ Still
 look_still None n a = refl
 look_still (Some h) n a = refl
 
-take_still : (o : Option HandSeen) (n old new : ℕ) (a : AnswerSeen) → course_of o (move.TakeContext n old new) a ≡ Still
+pub take_still : (o : Option HandSeen) (n old new : ℕ) (a : AnswerSeen) → course_of o (move.TakeContext n old new) a ≡ Still
 take_still None n old new a = refl
 take_still (Some h) n old new a = refl
 
@@ -110,7 +110,7 @@ begun_id script t (activity.Alone (location.Between last)) =
     next_id script.table (record t { position = went_on t.position last }) (next_of script.version t.position last)
 begun_id script t a = refl
 
-owner_asked : (script : Script) (v : ContextSeen) → owner_of (asked (begun script v)) ≡ owner_of v
+pub owner_asked : (script : Script) (v : ContextSeen) → owner_of (asked (begun script v)) ≡ owner_of v
 owner_asked script (Thread t) = ap owner.Thread (begun_id script t t.activity)
 owner_asked script (Carrier k) = refl
 
@@ -131,16 +131,16 @@ kept_hand k x h true e r = let no : PutDown x ≡ Run h = sym (rw e refl) ∙ r 
 
 -- LISTS
 
-any_held : (l : Lock) (ls : List (Option Lock)) → holds_lock l ls ≡ true → holds_any ls ≡ true
+pub any_held : (l : Lock) (ls : List (Option Lock)) → holds_lock l ls ≡ true → holds_any ls ≡ true
 any_held l [] e = absurd cc
 any_held l (Some k ∷ ls) e = refl
 any_held l (None ∷ ls) e = any_held l ls e
 
-still_any : (o : Option Lock) (ls : List (Option Lock)) → still_holds o ls ≡ true → holds_any ls ≡ true
+pub still_any : (o : Option Lock) (ls : List (Option Lock)) → still_holds o ls ≡ true → holds_any ls ≡ true
 still_any (Some l) ls e = any_held l ls e
 still_any None ls e = e
 
-lock_is : (l k : Lock) → want_for l ≡ want_for k → l ≡ k
+pub lock_is : (l k : Lock) → want_for l ≡ want_for k → l ≡ k
 lock_is lock.Table lock.Table e = refl
 lock_is lock.Ready lock.Ready e = refl
 lock_is (lock.Thread m) (lock.Thread n) e = let q : m ≡ n = cc in ap lock.Thread q
@@ -209,7 +209,7 @@ module _ (script : Script) (w : World) (x : HandSeen) (u : ContextSeen) (o : Opt
 
 -- WHO IS IN THE HAND
 
-not_not : (q : Bool) → not q ≡ false → q ≡ true
+pub not_not : (q : Bool) → not q ≡ false → q ≡ true
 not_not true e = refl
 not_not false e = absurd cc
 
@@ -239,18 +239,18 @@ module _ (script : Script) (w : World) (b : Board) (view : tokens.World) (entrie
     kept : gives K x ≡ false
     kept = kept_hand K x x (gives K x) refl (ap (ask_with K) (sym hand) ∙ e)
 
-    why : (is_released K x ≡ false) × (is_in_the_way K x ≡ false) × (is_nobodys K x ≡ false)
+    pub why : (is_released K x ≡ false) × (is_in_the_way K x ≡ false) × (is_nobodys K x ≡ false)
     why = parts (is_put_down K) (has_switched K x) (is_released K x) (is_in_the_way K x) (is_nobodys K x) (is_stopped K x) kept
 
-    found : found_in w x.context ≡ Some x.value
+    pub found : found_in w x.context ≡ Some x.value
     found =
         held_is (memory_of w).context (memory_of w).slot (memory_of w).hand 0 x aligned.shows.shows.places
         (hand_is w 0 ∙ hand)
 
-    number : IsOfNumber script.table x.context x.value
+    pub number : IsOfNumber script.table x.context x.value
     number = (aligned.contexts x.context x.value found).0
 
-    steady : IsHandSteady K x
+    pub steady : IsHandSteady K x
     steady = subst (λ (o : Option HandSeen). IfSome o (IsHandSteady K)) hand al.sound.steady
 
     thread_apart : (t : ThreadSeen) → x.value ≡ Thread t → is_own K x ≡ false
@@ -300,7 +300,7 @@ module _ (script : Script) (w : World) (b : Board) (view : tokens.World) (entrie
             let at : x.context ≡ K.table + K.number = omega (arith, n, table, q, mine) in
             let no : true ≡ false = sym (eq-eqb x.context (K.table + K.number) at) ∙ own in absurd cc
 
-    works : K.help ≡ None → same_owner (runner_of K) (owner_of x.value) ≡ true
+    pub works : K.help ≡ None → same_owner (runner_of K) (owner_of x.value) ≡ true
     works none = by x.value refl
       where
         by : (v : ContextSeen) → x.value ≡ v → same_owner (runner_of K) (owner_of v) ≡ true
@@ -309,7 +309,7 @@ module _ (script : Script) (w : World) (b : Board) (view : tokens.World) (entrie
 
     -- WHOM IT HELPS
 
-    helped_is : (p : Help) → K.help ≡ Some p → (p.context ≡ x.context) × (still_holds p.lock (locks_of x.value) ≡ true)
+    pub helped_is : (p : Help) → K.help ≡ Some p → (p.context ≡ x.context) × (still_holds p.lock (locks_of x.value) ≡ true)
     helped_is p is =
         let way = (λ d. is_some (sym is d) && not (helps (sym is d) x.context)) ∙ why.1 in
         let same = not_not (p.context == x.context) way in
@@ -320,7 +320,7 @@ module _ (script : Script) (w : World) (b : Board) (view : tokens.World) (entrie
         still true r s o = not_not r o
         still false r s o = absurd cc
 
-    inside : holds_any (locks_of x.value) ≡ true → begun script x.value ≡ x.value
+    pub inside : holds_any (locks_of x.value) ≡ true → begun script x.value ≡ x.value
     inside held = begun_inside script x.value (λ last t is alone.
         let no : holds_any (locks_of x.value) ≡ false = ap (λ (v : ContextSeen). holds_any (locks_of v)) is
         ∙ ap (λ (a : Activity). holds_any (about.locks_of a)) alone in

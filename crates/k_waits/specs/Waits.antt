@@ -75,7 +75,7 @@ abbrev pub IsWaiting : Script → World → ℕ → Type 0
 IsWaiting script w k = IsWaitingFor script w k (mark_at w.waits.marks k).requester
 
 -- What holds of the waits of a world with one carrier. It holds at the start, and what comes from outside keeps it. That each
--- step of the carrier keeps it isn't proved yet.
+-- step of the carrier keeps it is proved in k_courses, and of the running kernel in k_waiting.
 pub record WaitsHold (script : Script) (w : World) : Type 0 where
   pub carriers : length w.carriers ≡ 1
   pub log : IsLawfulLog w.waits

@@ -4,8 +4,8 @@
 //!
 //! It has no code. `specs/Waits` ties the log of waits to a board that the world shows: there k_bound has the theorem
 //! on chains of owners, and k_sections the laws on the steps of contexts that it stands on. The tie holds at the start,
-//! and what comes from outside keeps it. That each step of the carrier keeps it isn't proved yet: of that there are the
-//! laws on a step that is held up, on what is published, on the one turn of a step, and on what it leaves of others.
+//! and what comes from outside keeps it. That each step of the carrier keeps it is proved in k_courses. For that there are
+//! the laws on a step that is held up, on what is published, on the one turn of a step, and on what it leaves of others.
 //!
 //! The functions do nothing: each has a law as its contract.
 #![tactic(auto)]

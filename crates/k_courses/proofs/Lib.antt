@@ -1,0 +1,11 @@
+mod Victims
+mod Held
+mod Linked
+mod Found
+mod HeldUp
+mod Begun
+mod Resting
+mod Handed
+mod Taking
+mod Courses
+mod Steps

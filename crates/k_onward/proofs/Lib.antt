@@ -1,0 +1,9 @@
+pub mod Marks
+pub mod Carriers
+pub mod Stepping
+pub mod Others
+pub mod Asks
+pub mod Requesters
+pub mod Helped
+pub mod Onward
+pub mod Goes

@@ -1,20 +1,15 @@
 -- What code asks of a step, from what holds of the world and of the parts that show it.
-use Rattle.std.proofs.Common.{◌≡◌, ℕ, ◌+◌, ◌^◌, ◌≤◌, ◌<◌, List, [], ◌∷◌, length, Option, Some, None, arith}
+use Rattle.std.proofs.Common.{◌≡◌, ℕ, ◌≤◌, ◌<◌, List, [], ◌∷◌, length, Option, Some, None, arith}
 use Rattle.std.specs.Prelude.{IfSome}
 use Rattle.std.proofs.lemmas.List.{length-append}
-use Rattle.k_ids.specs.declared.calls.Act.{Act}
-use Rattle.k_ids.specs.declared.calls.Act.TheVariants as act
 use Rattle.k_ids.specs.declared.histories.Entry.{Entry}
-use Rattle.k_locks.specs.declared.points.Point.{Point}
-use Rattle.k_locks.specs.Points.{serial_for}
 use Rattle.k_script.specs.Script.{Script}
-use Rattle.k_carrier.specs.Resumed.{point_of}
 use Rattle.k_world.specs.Lawful.{IsLawfulLog}
-use Rattle.k_world.specs.Steps.{CarrierStep, caller_in, entry_by, entry_of, moved, recorded, step_in}
-use Rattle.k_world.specs.Worlds.{World, carrier_at, serial_at}
+use Rattle.k_world.specs.Steps.{entry_of, moved, recorded, step_in}
+use Rattle.k_world.specs.Worlds.{World, carrier_at}
 use Rattle.k_logs.specs.Seen.{HasRoom}
-use Rattle.k_places.specs.Fits.{IsEntryWithin}
-use Rattle.k_core.specs.Conditions.{CanStep, CanTurn, IsEntryFit}
+use Rattle.k_running.specs.Turning.{CanTurn, IsEntryFit}
+use Rattle.k_core.specs.Conditions.{CanStep}
 use Rattle.k_core.specs.Parts.{ArePlaced, Parts, world_in}
 use Rattle.k_core.proofs.Moved.{MayFind}
 
@@ -54,26 +49,3 @@ can_step script p c most inside placed turn fit found l m lawful standing room =
   room = room;
   found = found;
 }
-
--- THE ENTRY, from what the serials are
-
-serial_small : (a : Act) (last count : ℕ) → last ≤ count → count + 1 < 2 ^ 32 → serial_for a last < 2 ^ 32
-serial_small (act.Call phase) last count l m = omega (arith, l, m)
-serial_small act.Gone last count l m = omega (arith, l, m)
-serial_small act.Pick last count l m = omega (arith, l, m)
-
-fit_by : (w : World) (o : Option Point) → ((n : ℕ) → serial_at w n ≤ length w.history) →
-    length w.history + 1 < 2 ^ 32 → IsEntryWithin (length w.serials) (entry_by w o) →
-    IfSome (entry_by w o) (IsEntryFit w)
-fit_by w None lasts few within = tt
-fit_by w (Some p) lasts few within = record {
-  within = within;
-  serial = serial_small p.act (serial_at w p.who.number) (length w.history) (lasts p.who.number) few;
-}
-
--- No last serial is above the count of entries.
-pub is_fit : (w : World) (s : CarrierStep) → ((n : ℕ) → serial_at w n ≤ length w.history) →
-    length w.history + 1 < 2 ^ 32 → IsEntryWithin (length w.serials) (entry_of w s) →
-    IfSome (entry_of w s) (IsEntryFit w)
-is_fit w s lasts few within =
-    fit_by w (point_of s.asked (caller_in w s.asked.hand) s.answer) lasts few within

@@ -22,7 +22,7 @@ use Rattle.k_world.specs.Marks.{HeldUp, Onward, course_of}
 use Rattle.k_world.specs.Moves.{answer_by, found_by, slots_by, words_by}
 use Rattle.k_world.specs.Worlds.{World, context_at, context_by, held_in, resting_in, slot_at, word_at}
 use Rattle.k_carrier.specs.Conditions as carriers
-use Rattle.k_core.specs.Conditions.{CanFind, IsElsewhere, IsInHand, IsKnown, IsThere, context_word_at}
+use Rattle.k_running.specs.Turning.{CanFind, IsElsewhere, IsInHand, IsKnown, IsThere, context_word_at}
 
 -- nothing is changed
 pub record IsUnchanged (script : Script) (w : World) (n : ℕ) (m : MoveSeen) : Type 0 where

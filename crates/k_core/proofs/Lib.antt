@@ -7,3 +7,4 @@ pub mod Moved
 pub mod Courses
 pub mod Turns
 pub mod Can
+pub mod Steps

@@ -29,7 +29,8 @@ use Rattle.k_logs.specs.Seen.{Logged, carriers_in}
 use Rattle.k_places.specs.Fits.{IsEntryWithin}
 use Rattle.k_core.specs.declared.turn.Course.{Course}
 use Rattle.k_core.specs.declared.turn.Course.TheVariants as courses
-use Rattle.k_core.specs.Conditions.{CanAppend, CanFind, IsElsewhere, IsEntryFit}
+use Rattle.k_running.specs.Turning.{CanFind, IsElsewhere, IsEntryFit}
+use Rattle.k_core.specs.Conditions.{CanAppend}
 use Rattle.k_core.specs.Courses.{IfHeldUp, IsCourse, IsHolderOf}
 use Rattle.k_core.specs.Parts.{Parts, Recorded, entry_at, step_by, store_world, with_carriers, world_in}
 use Rattle.k_core.proofs.Found.{IsUnchanged, changed_carrier, find_after, found_after, held_stays}

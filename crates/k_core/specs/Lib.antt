@@ -1,3 +1,4 @@
 pub mod Parts
 pub mod Courses
 pub mod Conditions
+pub mod Running

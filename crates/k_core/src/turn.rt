@@ -15,7 +15,7 @@ ghost use Rattle.k_world.specs.Steps.{caller_in, carrier_after, course_in, runni
 ghost use Rattle.k_store.specs.Stores as stores;
 ghost use Rattle.k_store.specs.Stores.{slots_in};
 ghost use Rattle.k_core.specs.declared.turn.Course.TheVariants as course;
-ghost use Rattle.k_core.specs.Conditions.{CanTurn};
+ghost use Rattle.k_running.specs.Turning.{CanTurn};
 ghost use Rattle.k_core.specs.Courses.{IsCourse, can_tell};
 ghost use Rattle.k_core.specs.Parts.{store_world, turn_of};
 

@@ -1,13 +1,12 @@
 // The world, and one atomic step of a carrier.
 ghost use Rattle.std.specs.Prelude.{◌≡◌, ◌≤◌, ◌*◌, ◌^◌, ◌++◌, ◌<◌, IfOk, OnOk, length, option_map, true};
-ghost use Rattle.k_ids.specs.StateWords.{IsStateSpelling};
-ghost use Rattle.k_locks.specs.declared.locks.WordName.TheVariants as word;
 ghost use Rattle.k_locks.specs.Shown.{found_in};
+ghost use Rattle.k_script.specs.Limits.{IsScript};
 ghost use Rattle.k_script.specs.Weight.{phases_of};
 ghost use Rattle.k_carrier.specs.Flags.{has_hand, is_settled};
 ghost use Rattle.k_carrier.specs.Starts.{is_due};
 ghost use Rattle.k_world.specs.Boot.{booted};
-ghost use Rattle.k_store.specs.Conditions.{found_at};
+ghost use Rattle.k_kernel.specs.Moves as kernel;
 ghost use Rattle.k_script.specs.Script as scripts;
 ghost use Rattle.k_carrier.specs.Running.{holder_of, runner_of};
 ghost use Rattle.k_carrier.specs.Seen.{CarrierSeen};
@@ -19,12 +18,15 @@ ghost use Rattle.k_world.specs.Worlds as worlds;
 ghost use Rattle.k_world.specs.Worlds.{carrier_at, context_at, state_at};
 ghost use Rattle.k_store.specs.Stores.{with_store};
 ghost use Rattle.k_logs.specs.Seen.{HasRoom};
-ghost use Rattle.k_core.specs.Conditions.{CanFind, CanStep};
+ghost use Rattle.k_running.specs.Turning.{CanFind};
+ghost use Rattle.k_core.specs.Conditions.{CanStep};
 ghost use Rattle.k_core.specs.Courses.{IfHeldUp, IsCourse, IsHolderOf};
 ghost use Rattle.k_core.specs.Parts.{ArePlaced, with_carriers, world_in};
+ghost use Rattle.k_core.specs.Running.{IsRunning};
 
 use crate::boot::{carriers_of, slots_of, unstarted_of, words_of};
 use crate::history::History;
+use crate::laws::{each_step_goes_on, the_kernel_can_step, what_comes_from_outside_goes_on};
 use crate::turn::{Course, make_turn};
 use k_carrier::{Carrier, Holder, Link, StepMark, Stepped, WaitMark, Want};
 use k_ids::{ContextWord, Entry, Found, NoMemory};
@@ -74,6 +76,19 @@ impl World {
         requires carriers { carriers ≤ 8 }
         requires few { phases_of script.now < 2 ^ 32 }
         ensures world { IfOk result (λ w. world_in script.now w ≡ booted script.now carriers) }
+        ensures running { IfOk result (IsRunning script.now) }
+        ensures carriers { IfOk result (λ w. length w.carriers ≡ carriers) }
+    {
+        script.holds();
+        each_step_goes_on();
+        World::opened(alloc, script, carriers)
+    }
+
+    // That world, of which nothing else is known yet.
+    fn opened(alloc: Global, script: &Script, carriers: u8) -> Result<World, NoMemory>
+        requires carriers { carriers ≤ 8 }
+        requires few { phases_of script.now < 2 ^ 32 }
+        ensures world { IfOk result (λ w. world_in script.now w ≡ booted script.now carriers) }
         ensures placed { IfOk result (ArePlaced script.now) }
         ensures room { IfOk result (λ w. 2 * phases_of script.now ≤ w.recorded.capacity) }
     {
@@ -97,6 +112,7 @@ impl World {
           logs = record self.old.logs { room = self.new.logs.room };
         } }
         ensures room { OnOk result (HasRoom self.new.logs.room) }
+        ensures running { (script : scripts.Script) → IsRunning script self.old → IsRunning script self.new }
     {
         self.logs.reserve()
     }
@@ -104,6 +120,24 @@ impl World {
     /// Exactly one atomic step of a carrier, and what is told of it. There must be room for one mark more of
     /// each kind; it takes no memory.
     pub fn step(&mut self, script: &Script, c: u8) -> Stepped
+        requires carrier { c < length self.old.carriers }
+        requires few { kernel.HasRoom script.now }
+        requires running { IsRunning script.now self.old }
+        requires room { HasRoom self.old.logs.room }
+        ensures told { result ≡ told_of script.now c (world_in script.now self.old) }
+        ensures world { world_in script.now self.new ≡ moved script.now c (world_in script.now self.old) }
+        ensures running { IsRunning script.now self.new }
+        ensures carriers { length self.new.carriers ≡ length self.old.carriers }
+        ensures capacity { self.new.recorded.capacity ≡ self.old.recorded.capacity }
+    {
+        script.holds();
+        the_kernel_can_step();
+        each_step_goes_on();
+        self.make_step(script, c)
+    }
+
+    // The step, wherever all that it asks for is there.
+    fn make_step(&mut self, script: &Script, c: u8) -> Stepped
         requires { CanStep script.now self.old c }
         ensures told { result ≡ told_of script.now c (world_in script.now self.old) }
         ensures world { world_in script.now self.new ≡ moved script.now c (world_in script.now self.old) }
@@ -131,16 +165,18 @@ impl World {
     pub fn start(&mut self, c: u8, number: u8)
         requires carrier { c < length self.old.carriers }
         requires number { number < 64 }
-        requires inside { number < length self.old.unstarted }
         requires waits { is_due self.old.unstarted number ≡ true }
         ensures world { (script : scripts.Script) → world_in script self.new ≡ started c number
             (world_in script self.old) }
-        ensures placed { (script : scripts.Script) → ArePlaced script self.old → ArePlaced script self.new }
+        ensures running { (script : scripts.Script) → IsScript script → IsRunning script self.old →
+            IsRunning script self.new }
+        ensures carriers { length self.new.carriers ≡ length self.old.carriers }
         ensures rest { self.new ≡ record self.old {
           carriers = self.new.carriers;
           unstarted = self.new.unstarted;
         } }
     {
+        what_comes_from_outside_goes_on();
         self.unstarted[usize::from(number)] = false;
         self.carriers[usize::from(c)].start(number);
     }
@@ -150,9 +186,12 @@ impl World {
         requires { c < length self.old.carriers }
         ensures world { (script : scripts.Script) →
             world_in script self.new ≡ sliced c (world_in script self.old) }
-        ensures placed { (script : scripts.Script) → ArePlaced script self.old → ArePlaced script self.new }
+        ensures running { (script : scripts.Script) → IsScript script → IsRunning script self.old →
+            IsRunning script self.new }
+        ensures carriers { length self.new.carriers ≡ length self.old.carriers }
         ensures rest { self.new ≡ record self.old { carriers = self.new.carriers } }
     {
+        what_comes_from_outside_goes_on();
         self.carriers[usize::from(c)].slice();
     }
 
@@ -161,9 +200,12 @@ impl World {
         requires { c < length self.old.carriers }
         ensures world { (script : scripts.Script) →
             world_in script self.new ≡ parked c (world_in script self.old) }
-        ensures placed { (script : scripts.Script) → ArePlaced script self.old → ArePlaced script self.new }
+        ensures running { (script : scripts.Script) → IsScript script → IsRunning script self.old →
+            IsRunning script self.new }
+        ensures carriers { length self.new.carriers ≡ length self.old.carriers }
         ensures rest { self.new ≡ record self.old { carriers = self.new.carriers } }
     {
+        what_comes_from_outside_goes_on();
         self.carriers[usize::from(c)].park();
     }
 }
@@ -194,10 +236,20 @@ impl World {
         self.carriers[usize::from(c)].has_hand()
     }
 
-    /// What a thread number shows, 0 to 63, by its state word. The word's bits must spell one.
+    /// Whether this number's first thread still waits for its start.
+    pub fn is_due(&self, number: u8) -> bool
+        ensures { result ≡ is_due self.now.unstarted number }
+    {
+        match self.unstarted.get(usize::from(number)) {
+            Some(is_due) => *is_due,
+            None => false,
+        }
+    }
+
+    /// What a thread number shows, 0 to 63, by its state word.
     pub fn found(&self, number: u8) -> Found
         requires number { number < 64 }
-        requires spelled { IsStateSpelling (found_at self.now.store.words (word.State number)) }
+        requires running { (script : scripts.Script) × IsRunning script self.now }
         ensures { (script : scripts.Script) →
             result ≡ found_in number (state_at (world_in script self.now) number) }
     {

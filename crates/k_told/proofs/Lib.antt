@@ -1,0 +1,5 @@
+mod Asked
+mod Removing
+mod Missed
+mod Events
+mod Runnable

@@ -36,6 +36,7 @@ use Rattle.k_moves.specs.Views.{IsViewed, carrier_view}
 use Rattle.k_paired.proofs.Pairs.{still_pair}
 use Rattle.k_whole.specs.Whole.{Step, WholeHolds, step_point}
 use Rattle.k_whole.specs.Whole.{begins_switch, ends_switch, runs, stays, switches, wakes}
+use Rattle.k_whole.proofs.Counted.{IsHandCounted, one_counted}
 use Rattle.k_whole.proofs.Hands.{step_one}
 use Rattle.k_whole.proofs.Wholes.{whole_goes_on}
 use Rattle.k_kernel.specs.Serials.{SerialsHold}
@@ -109,6 +110,10 @@ module _ (now : Moment) where
   pub in_view : c < view.carriers
   in_view = subst (λ n. c < n) (sym k.aligned.count) low
 
+  -- it is counted, where it has a context in hand and isn't switching
+  pub hand_counted : IsHandCounted (carrier_view K)
+  hand_counted = subst IsHandCounted (k.aligned.carriers c low).viewed (k.whole.counted c in_view)
+
   -- what is so of the carrier then
   pub record IsAfter (j : CarrierSeen) : Type 0 where
     pub number : j.number ≡ c
@@ -117,9 +122,9 @@ module _ (now : Moment) where
     pub help : IfSome j.help (λ p. p.context < script.table + length w.carriers)
 
   -- with this carrier changed, and threads and lists as they were
-  pub whole_stays : (j : tokens.Carrier) → IsGood (with_carrier view K.number j) →
+  pub whole_stays : (j : tokens.Carrier) → IsGood (with_carrier view K.number j) → IsHandCounted j →
       WholeHolds script b (with_carrier view K.number j) w.history state
-  whole_stays j good = record {
+  whole_stays j good counted = record {
     holds = k.whole.holds;
     pair =
         still_pair G b view k.whole.pair (with_carrier view K.number j) good
@@ -131,6 +136,8 @@ module _ (now : Moment) where
         λ d t far. ap (λ (x : tokens.Carrier). x.starts t) (upd_other view.carrier K.number j d (apart d far))
         ∙ k.whole.starts d t far;
     owns = k.whole.owns;
+    victims = k.whole.victims;
+    counted = one_counted view K.number j counted k.whole.counted;
   }
     where
       apart : (d : ℕ) → view.carriers ≤ d → d ≢ K.number

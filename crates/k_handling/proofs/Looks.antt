@@ -1,5 +1,5 @@
 -- A carrier looks at a context: the board stays, and the goal may be dropped.
-use Rattle.std.proofs.Common.{◌≡◌, ℕ, ◌+◌, ◌<◌, length, refl, sym, ap, ◌∙◌, subst, Option, None, arith, inl}
+use Rattle.std.proofs.Common.{◌≡◌, ℕ, ◌+◌, ◌<◌, length, refl, sym, ap, ◌∙◌, subst, Option, Some, None, arith, inl}
 use Rattle.k_ids.specs.ContextWords.{context_word_of}
 use Rattle.k_locks.specs.declared.locks.WordName.TheVariants as name
 use Rattle.k_model.specs.Maps.{upd}
@@ -19,9 +19,10 @@ use Rattle.k_joint.proofs.Runs.{MapsWith, hand_is}
 use Rattle.k_tokens.specs.Good.{IsGood}
 use Rattle.k_tokens.specs.World.{with_carrier}
 use Rattle.k_switching.specs.Rules.{word_of}
-use Rattle.k_grants.specs.Views.{name_of}
-use Rattle.k_moves.specs.Views.{carrier_view}
+use Rattle.k_grants.specs.Views.{name_by, name_of}
+use Rattle.k_moves.specs.Views.{carrier_view, number_in}
 use Rattle.k_moves.proofs.Looks.{look_asks, look_keeps}
+use Rattle.k_whole.proofs.Counted.{IsHandCounted}
 use Rattle.k_handling.specs.Handling.{IsHandled}
 use Rattle.k_handling.proofs.Handles.{Moment, given, handled, in_view, number_is, table_is, viewed}
 use Rattle.k_handling.proofs.Handles.{whole_stays}
@@ -77,6 +78,10 @@ module _ (now : Moment) where
         (look_keeps script view K n Bits (viewed now) (given now) asks (aim_word n aimed) k.whole.pair.world
         (subst (λ m. m < view.carriers) (sym (number_is now)) (in_view now)))
 
+    -- without a context in hand it need not be
+    counted : IsHandCounted (carrier_view J)
+    counted x e off = let no : None ≡ Some x = sym (ap (λ h. name_by J.table (number_in h)) empty) ∙ e in cc
+
     pub look_handled : IsHandled script b (moved script c w) w.history state
     look_handled =
         handled now J (next_is now (LookAt n) asks (answer.Looked Bits) refl (λ x. refl) word)
@@ -86,7 +91,7 @@ module _ (now : Moment) where
         (history_is now (LookAt n) asks (answer.Looked Bits) refl (λ x. refl) word)
         k.serials (with_carrier view K.number (carrier_view J))
         (ap (λ m. upd view.carrier m (carrier_view J)) (number_is now)) refl refl
-        (whole_stays now (carrier_view J) good) (inl refl)
+        (whole_stays now (carrier_view J) good counted) (inl refl)
       where
         word : n < 72
         word = few_contexts n aimed

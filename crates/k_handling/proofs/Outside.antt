@@ -30,7 +30,7 @@ use Rattle.k_whole.specs.Whole.{WholeHolds}
 use Rattle.k_whole.proofs.Wholes.{slice_stays, start_stays}
 use Rattle.k_kernel.specs.Serials.{SerialsHold}
 use Rattle.k_handling.specs.Handling.{HasKernel}
-use Rattle.k_handling.proofs.Handles.{Moment, each, given, in_view, number_is, same_count, viewed, whole_stays}
+use Rattle.k_handling.proofs.Handles.{Moment, each, given, hand_counted, in_view, number_is, same_count, viewed, whole_stays}
 
 module _ (now : Moment) where
   open now use {script, limits, w, b, view, state, k, c, low}
@@ -156,7 +156,8 @@ module _ (now : Moment) where
       (maps_parked c w) (parked_shown script w b k.aligned.shows c) refl k.aligned.numbers
       (with_carrier view K.number (carrier_view (flags.parked K)))
       (ap (λ m. upd view.carrier m (carrier_view (flags.parked K))) number) k.aligned.unstarted refl
-      (whole_stays now (carrier_view (flags.parked K)) (park_keeps view K (viewed now) k.whole.pair.world))
+      (whole_stays now (carrier_view (flags.parked K)) (park_keeps view K (viewed now) k.whole.pair.world)
+      (hand_counted now))
     where
       number : K.number ≡ c
       number = number_is now

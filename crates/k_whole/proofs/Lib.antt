@@ -1,5 +1,7 @@
 pub mod Hands
 pub mod Owns
+pub mod Victims
+pub mod Counted
 pub mod Wholes
 pub mod Rests
 pub mod Next

@@ -1,6 +1,7 @@
 -- The kernel whole: a board with the history that was made on the way to it, and the carriers that make the steps.
 use Rattle.std.specs.Prelude.{◌≡◌, ◌≢◌, ℕ, ◌+◌, ◌<◌, ◌≤◌, true, false, Option, Some, None, List, ◌++◌}
 use Rattle.k_ids.specs.declared.histories.Entry.{Entry}
+use Rattle.k_ids.specs.declared.threads.ThreadId.{ThreadId}
 use Rattle.k_model.specs.Maps.{lowest}
 use Rattle.k_model.specs.State.{KernelState}
 use Rattle.k_locks.specs.Asks.{Response}
@@ -15,7 +16,7 @@ use Rattle.k_board.specs.Words.{Programs}
 use Rattle.k_board.specs.Boards.{Alone, Board, InSwitch, Nowhere, Resting}
 use Rattle.k_board.specs.Steps.{Answers, placed, switch_board}
 use Rattle.k_board.specs.Turns.{Turn, is_going}
-use Rattle.k_tokens.specs.World.{ContextName, OfCarrier, OfThread, World}
+use Rattle.k_tokens.specs.World.{ContextName, OfCarrier, OfThread, World, is_absent}
 use Rattle.k_tokens.specs.Grants.{Grants}
 use Rattle.k_tokens.specs.Steps.{ThreadStep, FindsTaken}
 use Rattle.k_switching.specs.Boot.{Opening}
@@ -42,6 +43,15 @@ StartsWithin w = (d t : ℕ) → w.carriers ≤ d → (w.carrier d).starts t ≡
 abbrev pub OwnsThere : Board → World → Type 0
 OwnsThere b w = (d : ℕ) → d < w.carriers → (b.context (b.size + d)).at ≢ Nowhere
 
+-- Whose removal is still to come has its context.
+abbrev pub HasVictims : World → Type 0
+HasVictims w = (who : ThreadId) → w.threads.victim ≡ Some who → is_absent (w.threads.condition who.number) ≡ false
+
+-- A carrier that has a context in hand, and isn't switching, is counted as running a thread.
+abbrev pub HandsCounted : World → Type 0
+HandsCounted w = (c : ℕ) → c < w.carriers → (context : ContextName) → (w.carrier c).hand ≡ Some context →
+    (w.carrier c).switching ≡ false → (w.carrier c).counted ≡ true
+
 -- All holds of the board and of its history; and board and world are a pair, of the same moment.
 pub record WholeHolds (script : Script) (b : Board) (w : World) (entries : List Entry) (k : KernelState) : Type 0 where
   pub holds : BoardHolds script b entries k
@@ -49,6 +59,8 @@ pub record WholeHolds (script : Script) (b : Board) (w : World) (entries : List 
   pub hands : HandsWithin w
   pub starts : StartsWithin w
   pub owns : OwnsThere b w
+  pub victims : HasVictims w
+  pub counted : HandsCounted w
 
 -- The board and the world in which the kernel begins to run a script.
 pub record IsBeginning (script : Script) (b : Board) (o : Opening) : Type 0 where

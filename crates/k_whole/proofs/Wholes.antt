@@ -102,7 +102,8 @@ module _ (script : Script) (limits : IsScript script) (b : Board) (w : World) (e
         (asked_one i p.step asked p.grants) p.pair
         (owns_left b w c p.step h.owns G h.pair i asked b' t)
     whole_goes_on _ (switches d s p r asked at going an) =
-        by_turn (b.size + d) _ (turn.switches s p r at going an) (switches d s p r asked at going an) FindsTaken refl tt (λ _ _. tt)
+        by_turn (b.size + d) _ (turn.switches s p r at going an) (switches d s p r asked at going an) FindsTaken refl tt
+        (λ _ _. tt)
         (switch_pair G b w h.pair c d FindsTaken low asked s p r at going an (told (b.size + d)))
         (owns_moved b w c FindsTaken h.owns (switch_board b (b.size + d) (b.context (b.size + d)) s p r) (b.size + d) _ refl refl
         (λ z. cc))

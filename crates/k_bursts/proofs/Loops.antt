@@ -4,10 +4,11 @@ use Rattle.std.specs.Prelude.{IfOk}
 use Rattle.std.proofs.lemmas.Bool.{cases_Bool, true≢false}
 use Rattle.k_script.specs.Limits.{IsScript}
 use Rattle.k_script.specs.Script.{Script}
-use Rattle.k_schedule.specs.Bursts.{IsBetween, IsBursting, effort, rounds}
+use Rattle.k_schedule.specs.Bursts.{IsBetween, IsBursting, rounds}
 use Rattle.k_schedule.specs.Carriers.{Carriers, Facts, ScheduleLaws}
 use Rattle.k_schedule.specs.Schedule.{Burst, IsBurst, IsRun, IsTail, Moment, all_settled, burst, follows, idle_at, items_at}
 use Rattle.k_schedule.specs.Schedule.{parks, settled_at, step_at, tail_begins}
+use Rattle.k_schedule.proofs.Effort.{effort}
 use Rattle.k_schedule.proofs.Events.{step_falls}
 use Rattle.k_schedule.proofs.Bursts.{bursting_step}
 use Rattle.k_schedule.proofs.Tails.{all_tells, tail_step}

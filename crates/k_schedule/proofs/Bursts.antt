@@ -2,9 +2,10 @@
 use Rattle.std.proofs.Common.{◌≡◌, ℕ, ◌+◌, ◌≤◌, true, false, refl, sym, ◌∙◌, subst, arith, List, [], inl, inr, zero, suc}
 use Rattle.std.proofs.lemmas.Bool.{cases_Bool, true≢false}
 use Rattle.k_script.specs.declared.lines.AtLine.{AtLine}
-use Rattle.k_schedule.specs.Bursts.{IsBursting, IsLeft, effort}
+use Rattle.k_schedule.specs.Bursts.{IsBursting, IsLeft}
 use Rattle.k_schedule.specs.Carriers.{AllSettled, Carriers, Facts, OthersSettled, ScheduleLaws}
 use Rattle.k_schedule.specs.Schedule.{Burst, BurstOf, IsBurst, Moment, burst, due, idle_at, settled_at, step_at}
+use Rattle.k_schedule.proofs.Effort.{effort}
 use Rattle.k_schedule.proofs.Events.{due_good, step_alone, step_falls, step_fresh, step_good, step_hand, step_idle}
 use Rattle.k_schedule.proofs.Events.{step_others, step_settled, step_shorter}
 

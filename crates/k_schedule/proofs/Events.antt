@@ -1,14 +1,16 @@
 -- Events and single steps. c is the carrier, m the moment, w a world, i another carrier, l a line and ls lines.
-use Rattle.std.proofs.Common.{◌≡◌, ◌≢◌, ℕ, ◌+◌, ◌*◌, ◌<◌, ◌≤◌, ◌==◌, true, false, refl, ap, ◌∙◌, arith, length, List}
+use Rattle.std.proofs.Common.{◌≡◌, ◌≢◌, ℕ, ◌+◌, ◌*◌, ◌<◌, ◌≤◌, ◌==◌, true, false, refl, ap, ◌∙◌, subst, arith, length, List}
 use Rattle.std.proofs.Common.{[], ◌∷◌, ◌⊎◌, inl, inr}
 use Rattle.std.proofs.lemmas.Bool.{cases_Bool}
 use Rattle.std.proofs.lemmas.Bool.Decides.{nat_tests}
 use Rattle.std.proofs.Math.Nat.{mul-le-mul_right}
 use Rattle.k_script.specs.declared.lines.AtLine.{AtLine}
-use Rattle.k_schedule.specs.Bursts.{effort}
 use Rattle.k_schedule.specs.Carriers.{Carriers, Facts, IsAlone, OthersSettled, ScheduleLaws, happens}
 use Rattle.k_schedule.specs.Events.{AreMade}
+use Rattle.k_schedule.specs.Parts.{Falls, Parts}
 use Rattle.k_schedule.specs.Schedule.{Moment, at_once, due, idle_at, least, moment, settled_at, step_at}
+use Rattle.k_schedule.proofs.Effort.{Lowers, effort, effort_falls}
+use Rattle.k_schedule.proofs.Parts.{falls_at}
 
 module _ {World : Type 0} (carriers : Carriers World) where
   -- what each event keeps, the events together keep
@@ -150,21 +152,23 @@ module _ {World : Type 0} (carriers : Carriers World) (facts : Facts World) (law
   step_shorter c m = at_once_shorter carriers c (carriers.made m.world) m.world m.ahead
 
   -- THE FALL: by a step that doesn't settle its carrier
+  step_lowers : (c : ℕ) (m : Moment World) → c < carriers.count → facts.IsGood m.world m.ahead →
+      IsAlone carriers m.world c → settled_at carriers c (step_at carriers c m) ≡ false →
+      Lowers carriers facts c m (step_at carriers c m)
+  step_lowers c m i p a s =
+      let d = due carriers c m in
+      let next = step_at carriers c m in
+      let fall = laws.falls d.world d.ahead c i (due_good c m i p) (due_alone c m a) s in
+      elim (at_once_cases carriers c (carriers.made m.world) m.world m.ahead) [
+        | inl same ↦
+            let least : length d.ahead ≤ length m.ahead = at_once_shorter carriers c (carriers.made m.world) m.world m.ahead in
+            let now : facts.parts d.world c ≡ facts.parts m.world c = ap (λ (x : Moment World). facts.parts x.world c) same in
+            let falls = subst (λ (x : Parts). Falls x (facts.parts next.world c)) now fall in
+            inr (least, falls_at (λ x. facts.parts x.world c) m next falls)
+        | inr less ↦ inl (omega (arith, less))
+      ]
+
   pub step_falls : (c : ℕ) (m : Moment World) → c < carriers.count → facts.IsGood m.world m.ahead →
       IsAlone carriers m.world c → settled_at carriers c (step_at carriers c m) ≡ false →
       effort carriers facts c (step_at carriers c m) + 1 ≤ effort carriers facts c m
-  step_falls c m i p a s =
-      let d = due carriers c m in
-      let good = due_good c m i p in
-      let fall = laws.falls d.world d.ahead c i good (due_alone c m a) s in
-      elim (at_once_cases carriers c (carriers.made m.world) m.world m.ahead) [
-        | inl same ↦
-            let w : facts.work d.world c ≡ facts.work m.world c = ap (λ (x : Moment World). facts.work x.world c) same in
-            let l : length d.ahead ≡ length m.ahead = ap (λ (x : Moment World). length x.ahead) same in
-            rw l (omega (arith, fall, w))
-        | inr less ↦
-            let most = laws.bounded d.world d.ahead c i good in
-            let after = facts.work (step_at carriers c m).world c in
-            less_than_a_line (length d.ahead) (length m.ahead) facts.most after (facts.work m.world c) less
-            (omega (arith, fall, most))
-      ]
+  step_falls c m i p a s = effort_falls carriers facts c m s (step_lowers c m i p a s)

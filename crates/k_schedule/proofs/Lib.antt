@@ -1,9 +1,10 @@
+pub mod Parts
+pub mod Effort
 pub mod Events
 pub mod Bursts
 pub mod Tails
 pub mod Runs
 pub mod Reached
 pub mod Passed
-pub mod Parts
 pub mod Near
 pub mod Worked

@@ -9,11 +9,12 @@ use Rattle.k_script.specs.declared.lines.Item.{Item}
 use Rattle.k_script.specs.declared.lines.Item.TheVariants as item
 use Rattle.k_script.specs.Limits.{IsItem, IsScript}
 use Rattle.k_script.specs.Script.{Script}
-use Rattle.k_schedule.specs.Bursts.{IsBetween, IsBursting, IsEnd, IsLeft, effort, rounds}
+use Rattle.k_schedule.specs.Bursts.{IsBetween, IsBursting, IsEnd, IsLeft, rounds}
 use Rattle.k_schedule.specs.Carriers.{Carriers, Facts, ScheduleLaws}
 use Rattle.k_schedule.specs.Schedule.{Burst, IsBurst, IsRun, IsTail, Moment, TailOf, due, follows, item_at, items_at}
 use Rattle.k_schedule.specs.Schedule.{moment, park_at, parks, step_at, tail_begins, times}
 use Rattle.k_schedule.proofs.Events.{due_good, due_hand, due_putting, step_good, step_hand}
+use Rattle.k_schedule.proofs.Effort.{effort}
 use Rattle.k_schedule.proofs.Bursts.{burst_after, burst_ends, burst_one}
 use Rattle.k_schedule.proofs.Tails.{tail_after, tail_ends}
 

@@ -7,11 +7,12 @@ use Rattle.std.proofs.lemmas.Bool.Decides.{nat_tests}
 use Rattle.std.proofs.lemmas.Option.{none-some, same_Some}
 use Rattle.std.proofs.Math.Nat.{mul-le-mul_right}
 use Rattle.k_script.specs.declared.lines.AtLine.{AtLine}
-use Rattle.k_schedule.specs.Bursts.{IsBetween, IsBursting, IsEnd, IsLeft, effort, rounds, unswept}
+use Rattle.k_schedule.specs.Bursts.{IsBetween, IsBursting, IsEnd, IsLeft, rounds, unswept}
 use Rattle.k_schedule.specs.Carriers.{AllSettled, Carriers, Facts, ScheduleLaws, happens}
 use Rattle.k_schedule.specs.Schedule.{Burst, IsBurst, IsTail, Moment, TailOf, all_settled, burst, follows, least}
 use Rattle.k_schedule.specs.Schedule.{moment, next_carrier}
 use Rattle.k_schedule.proofs.Events.{at_once_keeps, at_once_shorter, less_than_a_line}
+use Rattle.k_schedule.proofs.Effort.{effort}
 use Rattle.k_schedule.proofs.Bursts.{After, burst_after, burst_ends}
 
 pub and_true : (a b : Bool) → a ≡ true → b ≡ true → (a && b) ≡ true

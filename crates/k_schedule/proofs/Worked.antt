@@ -8,6 +8,7 @@ use Rattle.k_script.specs.declared.lines.AtLine.{AtLine}
 use Rattle.k_script.specs.declared.lines.AtWhat.{AtWhat}
 use Rattle.k_script.specs.declared.lines.AtWhat.TheVariants as what
 use Rattle.k_schedule.specs.Carriers.{OthersSettled, ScheduleLaws, happens}
+use Rattle.k_schedule.specs.Parts.{Falls}
 use Rattle.k_schedule.specs.Schedule.{Burst, IsRun, Moment, TailOf, burst, idle_at, least, tail_begins, times}
 use Rattle.k_schedule.specs.Worked.{AtRest, SmallWorld, Stage, Waits, Worker, Works, added, added_by, after_step}
 use Rattle.k_schedule.specs.Worked.{is_at_rest, is_settled, is_working, small_carriers, small_facts, small_script}
@@ -68,20 +69,13 @@ puts_down (Waits n) h = absurd (true≢false (sym h))
 puts_down (Works n) h = refl
 
 work_falls : (s : Stage) (p : Bool) → is_at_rest (after_step s p).stage ≡ false →
-    work_at (after_step s p).stage (after_step s p).putting + 1 ≤ work_at s p
+    work_at (after_step s p).stage (after_step s p).putting < work_at s p
 work_falls AtRest p h = absurd (true≢false h)
 work_falls (Waits n) true h = omega arith
 work_falls (Waits n) false h = omega arith
 work_falls (Works n) true h = omega arith
 work_falls (Works zero) false h = absurd (true≢false h)
 work_falls (Works (suc n)) false h = omega arith
-
-work_most : (s : Stage) (p : Bool) → work_at s p ≤ steps_left s + 4
-work_most AtRest p = omega arith
-work_most (Waits n) true = omega arith
-work_most (Waits n) false = omega arith
-work_most (Works n) true = omega arith
-work_most (Works n) false = omega arith
 
 -- THE LAWS
 
@@ -146,14 +140,14 @@ step_gives w c p h =
     ap (λ (x : Worker). is_working x.stage) (stepped_is w c) ∙ put ∙ down
 
 step_falls : (w : SmallWorld) (c : ℕ) → is_settled (small_step w c) c ≡ false →
-    work_at ((small_step w c).workers c).stage ((small_step w c).workers c).putting + 1
-    ≤ work_at (w.workers c).stage (w.workers c).putting
+    Falls (small_facts.parts w c) (small_facts.parts (small_step w c) c)
 unfolding stepped
 step_falls w c s =
     let x = w.workers c in
     let open_now = sym (ap (λ (y : Worker). is_at_rest y.stage) (stepped_is w c)) ∙ s in
     let falls = work_falls x.stage x.putting open_now in
-    subst (λ (y : Worker). work_at y.stage y.putting + 1 ≤ work_at x.stage x.putting) (sym (stepped_is w c)) falls
+    let less = subst (λ (y : Worker). work_at y.stage y.putting < work_at x.stage x.putting) (sym (stepped_is w c)) falls in
+    inr (inr (inl (omega arith, omega arith, less)))
 
 step_all : (w : SmallWorld) (c : ℕ) → OthersSettled small_carriers w c → is_settled (small_step w c) c ≡ true → (i : ℕ) →
     i < 2 → is_settled (small_step w c) i ≡ true
@@ -192,7 +186,6 @@ small_laws = record {
   putting_event = event_putting;
   gives = λ w ls c l good p h. step_gives w c p h;
   falls = λ w ls c l good alone s. step_falls w c s;
-  bounded = λ w ls c l good. omega (arith, work_most (w.workers c).stage (w.workers c).putting, good c);
   fresh = λ w ls c l good s. tt;
   fresh_event = λ w event c i fresh. tt;
   fresh_step = λ w ls c l good alone others fresh. tt;

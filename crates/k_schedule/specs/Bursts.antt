@@ -1,4 +1,4 @@
--- What holds within a burst and between two bursts, and how much is still to come.
+-- What holds within a burst and between two bursts, and how many bursts are still to come.
 use Rattle.std.specs.Prelude.{◌≡◌, ◌≢◌, ℕ, ◌+◌, ◌-◌, ◌*◌, ◌<◌, ◌≤◌, true, false, [], length, if◌then◌else◌}
 use Rattle.k_schedule.specs.Carriers.{AllSettled, Carriers, Facts, IsAlone}
 use Rattle.k_schedule.specs.Schedule.{Moment, all_settled}
@@ -32,10 +32,6 @@ module _ {World : Type 0} (carriers : Carriers World) (facts : Facts World) wher
     pub none : end.ahead ≡ []
     pub settled : AllSettled carriers end.world
     pub finished : facts.IsFinished end.world
-
-  -- within a burst: the lines left, and then what the carrier has to do
-  abbrev pub effort : ℕ → Moment World → ℕ
-  effort c m = length m.ahead * (facts.most + 1) + facts.work m.world c
 
 module _ {World : Type 0} (carriers : Carriers World) where
   -- how many bursts of the first round are still to come

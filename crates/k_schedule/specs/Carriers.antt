@@ -1,8 +1,9 @@
 -- What a schedule uses of a world in which carriers make steps, and the laws that it asks of it.
-use Rattle.std.specs.Prelude.{◌≡◌, ◌≢◌, ℕ, ◌+◌, ◌<◌, ◌≤◌, Bool, true, false, List, [], ◌∷◌}
+use Rattle.std.specs.Prelude.{◌≡◌, ◌≢◌, ℕ, ◌<◌, Bool, true, false, List, [], ◌∷◌}
 use Rattle.k_script.specs.declared.lines.AtLine.{AtLine}
 use Rattle.k_script.specs.declared.lines.AtWhat.{AtWhat}
 use Rattle.k_script.specs.declared.lines.AtWhat.TheVariants as what
+use Rattle.k_schedule.specs.Parts.{Falls, Parts}
 
 -- Carriers are told by their numbers, from 0.
 pub record Carriers (World : Type 0) : Type 0 where
@@ -35,9 +36,8 @@ pub record Facts (World : Type 0) : Type 1 where
   pub IsFinished : World → Type 0
   -- The carrier gives its hand at its next step.
   pub putting : World → ℕ → Bool
-  -- how many steps this carrier makes at most before it is settled, if no other one moves and no event happens
-  pub work : World → ℕ → ℕ
-  pub most : ℕ
+  -- what this carrier has still to do before it is settled, in parts, if no other one moves and no event happens
+  pub parts : World → ℕ → Parts
   -- A switch of this carrier that finds nobody to run, and nobody running, ends with Idle: it hasn't found so earlier.
   pub IsFresh : World → ℕ → Type 0
 
@@ -83,10 +83,7 @@ pub record ScheduleLaws (World : Type 0) (carriers : Carriers World) (facts : Fa
       facts.putting w c ≡ true → carriers.has_hand w c ≡ true → carriers.has_hand (carriers.step w c) c ≡ false
   -- A step that doesn't settle its carrier leaves it less to do, since nobody else has in hand what it needs. So a burst ends.
   pub falls : (w : World) (lines : List AtLine) (c : ℕ) → c < carriers.count → facts.IsGood w lines → IsAlone carriers w c →
-      carriers.settled (carriers.step w c) c ≡ false → facts.work (carriers.step w c) c + 1 ≤ facts.work w c
-  -- An event may give it more to do, but never more than the most.
-  pub bounded : (w : World) (lines : List AtLine) (c : ℕ) → c < carriers.count → facts.IsGood w lines →
-      facts.work w c ≤ facts.most
+      carriers.settled (carriers.step w c) c ≡ false → Falls (facts.parts w c) (facts.parts (carriers.step w c) c)
   -- A settled carrier is fresh, since its last switch is over, and it stays so where nobody else runs anything.
   pub fresh : (w : World) (lines : List AtLine) (c : ℕ) → c < carriers.count → facts.IsGood w lines →
       carriers.settled w c ≡ true → facts.IsFresh w c

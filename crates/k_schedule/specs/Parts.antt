@@ -1,5 +1,5 @@
 -- The measure of a burst in four parts, each of which counts more than all that come after it.
-use Rattle.std.specs.Prelude.{ℕ, ◌+◌, ◌*◌, ◌≤◌, ◌<◌, ◌⊎◌}
+use Rattle.std.specs.Prelude.{ℕ, ◌≤◌, ◌<◌, ◌⊎◌}
 
 pub record Parts : Type 0 where
   -- how many entries the history has room for
@@ -10,20 +10,6 @@ pub record Parts : Type 0 where
   pub steps : ℕ
   -- how many moves the carrier is from the next of these steps
   pub near : ℕ
-
--- What each part but the first stays below.
-pub record Bases : Type 0 where
-  pub owed : ℕ
-  pub steps : ℕ
-  pub near : ℕ
-
-pub record IsWithin (bases : Bases) (parts : Parts) : Type 0 where
-  pub owed : parts.owed < bases.owed
-  pub steps : parts.steps < bases.steps
-  pub near : parts.near < bases.near
-
-abbrev pub number : Bases → Parts → ℕ
-number bases parts = ((parts.room * bases.owed + parts.owed) * bases.steps + parts.steps) * bases.near + parts.near
 
 -- One part falls, and none before it rises.
 abbrev pub Falls : Parts → Parts → Type 0

@@ -7,6 +7,7 @@ use Rattle.k_script.specs.declared.lines.AtWhat.TheVariants as what
 use Rattle.k_script.specs.declared.lines.Item.TheVariants as item
 use Rattle.k_script.specs.Script.{Script}
 use Rattle.k_schedule.specs.Carriers.{AllSettled, Carriers, Facts}
+use Rattle.k_schedule.specs.Parts.{Parts}
 use Rattle.k_schedule.specs.Schedule.{Moment, moment}
 use Rattle.k_schedule.specs.Turn.{EventTurn, ParkTurn, StepTurn, Turn, run}
 
@@ -124,13 +125,16 @@ work_at (Waits steps) false = steps + 2
 work_at (Works steps) true = steps + 3
 work_at (Works steps) false = steps + 1
 
+-- All that a worker has to do are its own steps.
+abbrev pub parts_at : Stage → Bool → Parts
+parts_at stage putting = record { room = 0; owed = 0; steps = work_at stage putting; near = 0 }
+
 abbrev pub small_facts : Facts SmallWorld
 small_facts = record {
   IsGood = λ w lines. (c : ℕ) → steps_left (w.workers c).stage + added lines ≤ 100;
   IsFinished = λ w. AllSettled small_carriers w;
   putting = λ w c. (w.workers c).putting;
-  work = λ w c. work_at (w.workers c).stage (w.workers c).putting;
-  most = 104;
+  parts = λ w c. parts_at (w.workers c).stage (w.workers c).putting;
   IsFresh = λ w c. Unit {0};
 }
 

@@ -1,6 +1,6 @@
 // The laws of the schedule. Each is a function that does nothing, whose contract is the law.
 ghost use Rattle.std.specs.List.{AllByRecursion};
-ghost use Rattle.std.specs.Prelude.{Bool, List, Option, Some, reverse, ◌<◌, ◌≡◌, ◌∷◌, ℕ, true, false};
+ghost use Rattle.std.specs.Prelude.{Bool, List, Option, Some, reverse, ◌+◌, ◌<◌, ◌≡◌, ◌∷◌, ℕ, true, false};
 ghost use Rattle.k_script.specs.declared.lines.AtLine.{AtLine};
 ghost use Rattle.k_script.specs.Limits.{IsScript};
 ghost use Rattle.k_script.specs.Script.{Script};
@@ -8,7 +8,7 @@ ghost use Rattle.k_schedule.specs.Bursts.{IsBetween, IsBursting, IsEnd, IsLeft};
 ghost use Rattle.k_schedule.specs.Carriers.{Carriers, Facts, ScheduleLaws};
 ghost use Rattle.k_schedule.specs.Events.{AreMade, Counts, IsAhead};
 ghost use Rattle.k_schedule.specs.Near.{Held, IsRanked, Seat, Turned, near, next_seat};
-ghost use Rattle.k_schedule.specs.Parts.{Bases, Falls, IsWithin, Parts, number};
+ghost use Rattle.k_schedule.specs.Parts.{Falls, Parts};
 ghost use Rattle.k_schedule.specs.Schedule.{Burst, IsBurst, IsRun, IsTail, Moment, due, follows, least, moment};
 ghost use Rattle.k_schedule.specs.Schedule.{park_at, step_at, tail_begins};
 ghost use Rattle.k_schedule.specs.Turn.{IsReached};
@@ -100,10 +100,9 @@ pub fn a_carrier_comes_nearer()
         next_seat blocked holds clean seat turned ≡ Some next → near blocked holds clean next < near blocked holds clean seat }
 {}
 
-/// Where one part of the measure falls and none before it rises, the measure falls.
-pub fn a_falling_part_counts()
-    ensures { (bases : Bases) (before after : Parts) → IsWithin bases after → Falls before after →
-        number bases after < number bases before }
+/// The parts of a measure don't fall for ever, where each time one of them falls and none before it rises.
+pub fn parts_dont_fall_for_ever()
+    ensures { (parts : ℕ → Parts) → ((n : ℕ) → Falls (parts n) (parts (n + 1))) → ⊥ }
 {}
 
 /// A schedule worked out by hand, in a small world that keeps the laws: its turns come in this order, and in no other.

@@ -1,5 +1,6 @@
-use Rattle.k_schedule.specs.Bursts.{IsBursting, effort}
+use Rattle.k_schedule.specs.Bursts.{IsBursting}
 use Rattle.k_schedule.specs.Schedule.{Burst, IsBurst}
+use Rattle.k_schedule.proofs.Effort.{effort}
 use Rattle.k_bursts.specs.Playing.{Stands, moment_at}
 use Rattle.k_bursts.proofs.bursts.burst.Given as goal
 

@@ -1,4 +1,5 @@
--- Induction along a relation under which numbers fall, the first of which counts most. x is above y; f gives a number, p the parts.
+-- Induction along a relation under which numbers fall, the first of which counts most. x is above y, f gives a number, and p
+-- the parts.
 use Rattle.std.proofs.Common.{ℕ, ◌+◌, ◌<◌, ◌≤◌, ◌⊎◌, inl, inr, zero, suc, arith}
 use Rattle.std.proofs.lemmas.Bool.{cases_lt}
 use Rattle.k_schedule.specs.Parts.{Falls, Parts}

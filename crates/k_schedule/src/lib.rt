@@ -6,8 +6,8 @@
 //!
 //! It has no code. `specs/Carriers` has what the schedule uses of a world, and the laws that it asks of it; `specs/Schedule` the
 //! schedule, rule by rule, as functions and relations; `specs/Turn` the single turns of which a run is made; `specs/Bursts` what
-//! holds within a burst and between two of them, and how many bursts are still to come; `specs/Near` how far a carrier is from its
-//! next step of a section, and `specs/Parts` when such measures fall together; `specs/Worked` a schedule worked out by hand.
+//! holds within a burst and between two of them, and how many bursts are still to come; `specs/Near` how far a carrier is from
+//! its next step of a section, and `specs/Parts` when such measures fall together; `specs/Worked` a schedule worked out by hand.
 //!
 //! The functions do nothing: each has a law as its contract.
 #![tactic(auto)]

@@ -89,7 +89,8 @@ use Rattle.k_conditions.proofs.Moments.{hand_found, in_view, next_at}
 use Rattle.k_conditions.proofs.Opened.{opened, thread_proper}
 use Rattle.k_conditions.proofs.Others.{holding_switches, own_holds}
 use Rattle.k_conditions.proofs.Steady.{HelpsSo, Keeps, ValueSound, readied_keeps, resumed_answered, resumed_helps}
-use Rattle.k_conditions.proofs.Steady.{resumed_number, resumed_sound, resumed_starts, sound_given}
+use Rattle.k_handling.proofs.Soundly.{sound_given}
+use Rattle.k_conditions.proofs.Steady.{resumed_number, resumed_sound, resumed_starts}
 use Rattle.k_conditions.proofs.StepsAs.{IsFine, StepAs, step_as}
 use Rattle.k_conditions.proofs.Switched.{comes_to}
 

@@ -6,7 +6,6 @@ use Rattle.k_ids.specs.declared.context_word.ContextWord.{ContextWord}
 use Rattle.k_ids.specs.declared.context_word.ContextWord.TheVariants as word
 use Rattle.k_locks.specs.declared.steps.Answer.{Answer}
 use Rattle.k_script.specs.Script.{Script}
-use Rattle.k_switch.specs.declared.goal.Goal.{Goal}
 use Rattle.k_switch.specs.declared.goal.Switched.{Switched}
 use Rattle.k_caller.proofs.Owned.{either}
 use Rattle.k_context.specs.Contexts.{ContextSeen, has_switch}
@@ -16,7 +15,7 @@ use Rattle.k_carrier.specs.declared.carrier.Target.TheVariants as target
 use Rattle.k_carrier.specs.declared.moves.Awaits.TheVariants as awaits
 use Rattle.k_carrier.specs.Answers.{AnswerSeen}
 use Rattle.k_carrier.specs.Answers as answers
-use Rattle.k_carrier.specs.Conditions.{CanTell, IsGoalIn, IsSound}
+use Rattle.k_carrier.specs.Conditions.{CanTell, IsSound}
 use Rattle.k_carrier.specs.Resumed.{after_look, after_section, after_take, help_after, in_hand, is_given_released}
 use Rattle.k_carrier.specs.Resumed.{is_holding, lock_awaited, resumed, seen, switch_begun, switched_given}
 use Rattle.k_carrier.specs.Resumed.{switched_to, told_in}
@@ -26,7 +25,6 @@ use Rattle.k_carrier.specs.Seen.{CarrierSeen, HandSeen}
 use Rattle.k_carrier.specs.Starts.{first_start, without_start}
 use Rattle.k_carrier.proofs.Sound.{give_heard, given_sound, look_heard, looked_sound, lost_sound, section_heard}
 use Rattle.k_carrier.proofs.Sound.{section_sound, step_awaited, take_heard, took_sound}
-use Rattle.k_moves.specs.Moved.{IsGiven, IsGoalGiven}
 
 -- what is so of the help after an answer
 abbrev pub HelpsSo : (ℕ → Type 0) → CarrierSeen → AnswerSeen → Type 0
@@ -158,11 +156,3 @@ resumed_sound script c (answers.Looked bits) sound can value = looked_sound scri
 resumed_sound script c (answers.Took v) sound can value = took_sound script c v sound can
 resumed_sound script c (answers.TakeLost bits) sound can value = lost_sound script c bits sound
 resumed_sound script c answers.Given sound can value = given_sound script c sound can
-
--- a sound carrier is as it is given
-goal_given : (table : ℕ) (o : Option Goal) → IfSome o (IsGoalIn table) → IsGoalGiven table o
-goal_given table None is = tt
-goal_given table (Some g) is = (is.inside, is.goal.id.born)
-
-pub sound_given : (script : Script) (c : CarrierSeen) → IsSound script c → length c.starts ≡ 64 → IsGiven c
-sound_given script c sound starts = record { goal = goal_given c.table c.goal sound.goal; starts = starts }

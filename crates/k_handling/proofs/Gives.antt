@@ -229,7 +229,7 @@ module _ (now : Moment) (h : HandSeen)
       some_same : {x y : ContextName} → Some x ≡ Some y → x ≡ y
       some_same e = cc
 
-  as_it_is : own_switched K h ≡ None → IsHandled script b (moved script c w) w.history state
+  as_it_is : own_switched K h ≡ None → IsHandled script b view c (moved script c w) w.history state
   as_it_is none =
       handled_so now (PutDown h) asks answer.Given refl (λ x. refl) word after b
       (subst (λ (m : Memory). Shows script m b) (ap Given (sym (kept_rested none)) ∙ maps_given)
@@ -315,7 +315,7 @@ module _ (now : Moment) (h : HandSeen)
         hand_name ∙ ap Some (ap (name_of K.table) (eqb-true N (own_context K) o.its_own) ∙ name_beyond K.table K.number
         ∙ ap OfCarrier number)
 
-    ends : IsHandled script b (moved script c w) w.history state
+    ends : IsHandled script b view c (moved script c w) w.history state
     ends =
         handled_so now (PutDown h) asks answer.Given refl (λ x. refl) word after
         (After (b.size + c)) (subst (λ m. Shows script (MapsWith script w c (PutDown h)) (After m)) own_place shows_after)
@@ -327,9 +327,9 @@ module _ (now : Moment) (h : HandSeen)
         calm l e =
             let z : Alone (thread_location.Between l) ≡ InSwitch o.switch.call (switch.Finished s) = sym e ∙ own_at in absurd cc
 
-  pub give_handled : IsHandled script b (moved script c w) w.history state
+  pub give_handled : IsHandled script b view c (moved script c w) w.history state
   give_handled = by (own_switched K h) refl
     where
-      by : (o : Option Switched) → own_switched K h ≡ o → IsHandled script b (moved script c w) w.history state
+      by : (o : Option Switched) → own_switched K h ≡ o → IsHandled script b view c (moved script c w) w.history state
       by None e = as_it_is e
       by (Some s) e = ends s (over_is (is_own K h) h.value s e)

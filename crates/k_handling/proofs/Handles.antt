@@ -1,6 +1,6 @@
 -- After a move: the raw world with one carrier changed, and a board and carriers of which the whole holds.
 use Rattle.std.proofs.Common.{◌≡◌, ◌≢◌, ℕ, ◌+◌, ◌<◌, ◌≤◌, length, get_or, refl, sym, ap, ◌∙◌, subst, Option}
-use Rattle.std.proofs.Common.{None, List, ◌++◌, arith, inl, inr}
+use Rattle.std.proofs.Common.{None, List, ◌++◌, arith, ◌⊎◌, inl, inr, false}
 use Rattle.std.specs.Prelude.{IfSome, slice_set}
 use Rattle.std.proofs.lemmas.Bool.Decides.{eqb_tells}
 use Rattle.std.proofs.lemmas.List.{append-nil, get_or-set_other, get_or-set_same, length-set}
@@ -41,7 +41,7 @@ use Rattle.k_whole.proofs.Hands.{step_one}
 use Rattle.k_whole.proofs.Wholes.{whole_goes_on}
 use Rattle.k_kernel.specs.Serials.{SerialsHold}
 use Rattle.k_kernel.proofs.Serials.{serials_stay}
-use Rattle.k_handling.specs.Handling.{IsHandled, IsKernel, IsMatched, IsTurned}
+use Rattle.k_handling.specs.Handling.{HasCompany, IsHandled, IsKernel, IsMatched, IsStepTo, IsTurned, is_of_thread}
 
 -- a turn that makes no entry, and isn't of a thread between two calls, keeps the serials
 pub serials_kept : (g : Programs) (b : Board) (i n : ℕ) → SerialsHold b n →
@@ -59,6 +59,16 @@ step_turned g b v c _ (begins_switch s hand took at from) = inr (b.size + c, tur
 step_turned g b v c _ (ends_switch s o hand at) = inr (b.size + c, turn.ends_switch s o at)
 step_turned g b v c _ (wakes i hand took inside at) = inr (i, turn.wakes at)
 step_turned g b v c _ (stays nobody still) = inl refl
+
+-- one that isn't a thread's makes no entry
+no_point : (g : Programs) (b : Board) (v : tokens.World) (c : ℕ) (b' : Board) (s : Step g b v c b') →
+    is_of_thread g b v c b' s ≡ false → step_point g b v c b' s ≡ None
+no_point g b v c _ (runs i b' found asked wait free t) e = absurd cc
+no_point g b v c _ (switches d s p r asked at going an) e = refl
+no_point g b v c _ (begins_switch s hand took at from) e = refl
+no_point g b v c _ (ends_switch s o hand at) e = refl
+no_point g b v c _ (wakes i hand took inside at) e = refl
+no_point g b v c _ (stays nobody still) e = refl
 
 -- A kernel, and one of its carriers.
 pub record Moment : Type 0 where
@@ -183,8 +193,9 @@ module _ (now : Moment) where
     -- any carriers of which the whole holds
     pub handled : (view' : tokens.World) → view'.carrier ≡ upd view.carrier c (carrier_view j) → view'.unmade ≡ view.unmade →
         view'.carriers ≡ view.carriers → WholeHolds script b' view' w.history state → IsTurned (ranged_programs script) b b' →
-        IsHandled script b (moved script c w) w.history state
-    handled view' one unmade same whole turned = record {
+        IsStepTo (ranged_programs script) b view c b' view' ⊎ HasCompany view c →
+        IsHandled script b view c (moved script c w) w.history state
+    handled view' one unmade same whole turned steps = record {
       board = b';
       view = view';
       matched = record {
@@ -200,6 +211,7 @@ module _ (now : Moment) where
           (λ d x. IfSome x.help (λ p. p.context < script.table + length (moved script c w).carriers))
           (within j fits.help) (λ d few ne. within (carrier_at w d) (k.helps d few));
       turned = turned;
+      steps = steps;
       history = history;
       whole = subst (λ (es : List Entry). WholeHolds script b' view' es state) (sym history) whole;
       serials = subst (λ (es : List Entry). SerialsHold b' (length es)) (sym history) serials;
@@ -228,11 +240,12 @@ module _ (now : Moment) where
         }
 
     -- the carriers after a step that makes no entry
-    pub by_step : (s : Step G b view c b') → step_point G b view c b' s ≡ None →
+    pub by_step : (s : Step G b view c b') → is_of_thread G b view c b' s ≡ false →
         ((t : ThreadStep) → (carrier_step view c t).carrier ≡ upd view.carrier c (carrier_view j)) →
         ((t : ThreadStep) → (carrier_step view c t).unmade ≡ view.unmade) →
-        IsHandled script b (moved script c w) w.history state
-    by_step s quiet one unmade =
+        IsHandled script b view c (moved script c w) w.history state
+    by_step s other one unmade =
+        let quiet = no_point G b view c b' s other in
         let g = whole_goes_on script limits b view w.history state k.whole c in_view b' s in
         handled (carrier_step view c g.step) (one g.step) (unmade g.step) (step_one c view g.step).carriers
         (subst (WholeHolds script b' (carrier_step view c g.step) w.history)
@@ -240,3 +253,4 @@ module _ (now : Moment) where
         (subst (λ (es : List Entry). WholeHolds script b' (carrier_step view c g.step) es g.new)
         (ap (λ (p : Option Point). w.history ++ entries_of b p) quiet ∙ append-nil w.history) g.whole))
         (step_turned (ranged_programs script) b view c b' s)
+        (inl (record { step = s; other = other; made = g.step; kind = g.kind; leads = refl }))

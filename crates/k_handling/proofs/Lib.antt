@@ -8,3 +8,4 @@ pub mod Gives
 pub mod Taken
 pub mod Takes
 pub mod Switches
+pub mod Soundly

@@ -1,11 +1,13 @@
 -- A carrier looks at a context: the board stays, and the goal may be dropped.
-use Rattle.std.proofs.Common.{◌≡◌, ℕ, ◌+◌, ◌<◌, length, refl, sym, ap, ◌∙◌, subst, Option, Some, None, arith, inl}
+use Rattle.std.proofs.Common.{◌≡◌, ℕ, ◌+◌, ◌<◌, Bool, true, false, length, refl, sym, ap, ◌∙◌, subst, Option, Some, None}
+use Rattle.std.proofs.Common.{arith, ◌⊎◌, inl, inr}
+use Rattle.k_ids.specs.declared.context_word.ContextWord.TheVariants.{Taken}
 use Rattle.k_ids.specs.ContextWords.{context_word_of}
 use Rattle.k_locks.specs.declared.locks.WordName.TheVariants as name
 use Rattle.k_model.specs.Maps.{upd}
 use Rattle.k_carrier.specs.declared.moves.Awaits.TheVariants as awaits
 use Rattle.k_carrier.specs.Answers as answer
-use Rattle.k_carrier.specs.Asked.{LookAt, ask_of, asked_by}
+use Rattle.k_carrier.specs.Asked.{CarrierAsk, LookAt, ask_of, asked_by}
 use Rattle.k_carrier.specs.Resumed.{resumed}
 use Rattle.k_carrier.specs.Rules.{readied, target_of}
 use Rattle.k_carrier.specs.Seen.{CarrierSeen, HandSeen}
@@ -17,18 +19,22 @@ use Rattle.k_places.proofs.Raw.{word_is}
 use Rattle.k_places.proofs.Takes.{nothing_changed, with_places}
 use Rattle.k_joint.proofs.Runs.{MapsWith, hand_is}
 use Rattle.k_tokens.specs.Good.{IsGood}
+use Rattle.k_plays.specs.Scripts.{ranged_programs}
+use Rattle.k_tokens.specs.Steps.{FindsTaken}
 use Rattle.k_tokens.specs.World.{with_carrier}
-use Rattle.k_switching.specs.Rules.{word_of}
+use Rattle.k_switching.specs.Rules.{carrier_step, word_of}
 use Rattle.k_grants.specs.Views.{name_by, name_of}
 use Rattle.k_moves.specs.Views.{carrier_view, number_in}
-use Rattle.k_moves.proofs.Looks.{look_asks, look_keeps}
+use Rattle.k_moves.specs.Moved.{is_replaced}
+use Rattle.k_moves.proofs.Looks.{IsGone, gone_is, look_asks, look_keeps, look_same}
+use Rattle.k_whole.specs.Whole.{stays}
 use Rattle.k_whole.proofs.Counted.{IsHandCounted}
-use Rattle.k_handling.specs.Handling.{IsHandled}
+use Rattle.k_handling.specs.Handling.{HasCompany, IsHandled, IsStepTo}
 use Rattle.k_handling.proofs.Handles.{Moment, given, handled, in_view, number_is, table_is, viewed}
 use Rattle.k_handling.proofs.Handles.{whole_stays}
 use Rattle.k_handling.proofs.Moves.{aim_within, board_shown, heard_after, history_is, look_kept, next_is}
-use Rattle.k_handling.proofs.Moves.{readied_kept}
-use Rattle.k_handling.proofs.Words.{word_shown}
+use Rattle.k_handling.proofs.Moves.{nobody_in_hand, readied_kept, still_as}
+use Rattle.k_handling.proofs.Words.{hand_held, hand_viewed, held_at, held_told, word_shown}
 
 module _ (now : Moment) where
   open now use {script, limits, w, b, view, state, k, c, low}
@@ -82,7 +88,56 @@ module _ (now : Moment) where
     counted : IsHandCounted (carrier_view J)
     counted x e off = let no : None ≡ Some x = sym (ap (λ h. name_by J.table (number_in h)) empty) ∙ e in cc
 
-    pub look_handled : IsHandled script b (moved script c w) w.history state
+    -- THE STEP: the view's carrier looks too, and does the same, but where the goal's number has another thread by now
+
+    nothing : (view.carrier c).hand ≡ None
+    nothing = hand_viewed script w b view state k c None low (look_asks K n asks).free
+
+    abbrev Replaces : Bool
+    Replaces = is_replaced (target_of (readied K)) (context_word_of Bits)
+
+    looks : Replaces ≡ false → IsStepTo (ranged_programs script) b view c b (with_carrier view K.number (carrier_view J))
+    looks r = record {
+      step = stays (nobody_in_hand view c nothing) (still_as (ap (λ m. carrier_step view m FindsTaken) (sym (number_is now)) ∙ same)
+          (record { threads = refl; ready = refl; lists = refl; running = refl; own = refl }));
+      other = refl;
+      made = FindsTaken;
+      kind = tt;
+      leads = sym same ∙ ap (λ m. carrier_step view m FindsTaken) (number_is now);
+    }
+      where
+        same : carrier_step view K.number FindsTaken ≡ with_carrier view K.number (carrier_view J)
+        same =
+            look_same script view K n Bits FindsTaken (viewed now) (given now) asks (aim_word n aimed) r
+            ∙ ap (λ (a : CarrierAsk). with_carrier view K.number (carrier_view (resumed (asked_by script K a)
+            (answer.Looked Bits)))) asks
+
+    in_company : Replaces ≡ true → HasCompany view c
+    in_company r = record {
+      carrier = gone.carrier;
+      context = name_of script.table n;
+      other = λ e. (let z : None ≡ Some (name_of script.table n) =
+          sym nothing ∙ ap (λ m. (view.carrier m).hand) (sym e) ∙ hand in absurd cc);
+      hand = hand;
+    }
+      where
+        gone : IsGone K (context_word_of Bits)
+        gone = gone_is K (context_word_of Bits) r
+
+        held : held_at view (name_of script.table n) ≡ Some gone.carrier
+        held =
+            held_told script w b view state k n (Taken gone.carrier gone.version)
+            (ap context_word_of (sym (word_is w (name.Context n))) ∙ gone.word)
+
+        hand : (view.carrier gone.carrier).hand ≡ Some (name_of script.table n)
+        hand = hand_held script w b view state k gone.carrier (name_of script.table n) held
+
+    steps : (r : Bool) → Replaces ≡ r →
+        IsStepTo (ranged_programs script) b view c b (with_carrier view K.number (carrier_view J)) ⊎ HasCompany view c
+    steps false r = inl (looks r)
+    steps true r = inr (in_company r)
+
+    pub look_handled : IsHandled script b view c (moved script c w) w.history state
     look_handled =
         handled now J (next_is now (LookAt n) asks (answer.Looked Bits) refl (λ x. refl) word)
         (heard_after now J
@@ -91,7 +146,7 @@ module _ (now : Moment) where
         (history_is now (LookAt n) asks (answer.Looked Bits) refl (λ x. refl) word)
         k.serials (with_carrier view K.number (carrier_view J))
         (ap (λ m. upd view.carrier m (carrier_view J)) (number_is now)) refl refl
-        (whole_stays now (carrier_view J) good counted) (inl refl)
+        (whole_stays now (carrier_view J) good counted) (inl refl) (steps Replaces refl)
       where
         word : n < 72
         word = few_contexts n aimed

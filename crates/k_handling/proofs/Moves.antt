@@ -40,9 +40,9 @@ use Rattle.k_switching.specs.Rules.{carrier_step}
 use Rattle.k_moves.specs.Moved.{IsGoalGiven}
 use Rattle.k_moves.specs.Views.{carrier_view}
 use Rattle.k_paired.specs.Pairs.{IsStill}
-use Rattle.k_whole.specs.Whole.{Step, step_point}
+use Rattle.k_whole.specs.Whole.{Step}
 use Rattle.k_kernel.specs.Serials.{SerialsHold}
-use Rattle.k_handling.specs.Handling.{IsHandled}
+use Rattle.k_handling.specs.Handling.{IsHandled, is_of_thread}
 use Rattle.k_handling.proofs.Handles.{IsAfter, Moment, by_step, given, number_is, table_is}
 
 -- THE CARRIER
@@ -230,13 +230,13 @@ module _ (now : Moment) where
     -- the step is one of the whole, and the board is shown
     pub handled_as : IsAfter now J → (b' : Board) → ShowsBoard script (moved script c w) b' →
         SerialsHold b' (length w.history) → (s : Step (ranged_programs script) b view c b') →
-        step_point (ranged_programs script) b view c b' s ≡ None →
+        is_of_thread (ranged_programs script) b view c b' s ≡ false →
         ((t : ThreadStep) → (carrier_step view K.number t).carrier ≡
         upd view.carrier K.number (carrier_view (resumed (asked script K) found))) →
         ((t : ThreadStep) → (carrier_step view K.number t).unmade ≡ view.unmade) →
-        IsHandled script b (moved script c w) w.history state
-    handled_as fits b' shows serials s quiet one unmade =
-        by_step now J next_is fits b' shows history_is serials s quiet
+        IsHandled script b view c (moved script c w) w.history state
+    handled_as fits b' shows serials s other one unmade =
+        by_step now J next_is fits b' shows history_is serials s other
         (λ t. ap (λ m. (carrier_step view m t).carrier) (sym number) ∙ one t ∙ (λ z. upd view.carrier (number z)
         (carrier_view (resumed (asked_by script K (asks z)) found))))
         (λ t. ap (λ m. (carrier_step view m t).unmade) (sym number) ∙ unmade t)
@@ -247,11 +247,11 @@ module _ (now : Moment) where
     -- .. by its maps
     pub handled_so : IsAfter now J → (b' : Board) → Shows script (MapsWith script w c a) b' →
         SerialsHold b' (length w.history) → (s : Step (ranged_programs script) b view c b') →
-        step_point (ranged_programs script) b view c b' s ≡ None →
+        is_of_thread (ranged_programs script) b view c b' s ≡ false →
         ((t : ThreadStep) → (carrier_step view K.number t).carrier ≡
         upd view.carrier K.number (carrier_view (resumed (asked script K) found))) →
         ((t : ThreadStep) → (carrier_step view K.number t).unmade ≡ view.unmade) →
-        IsHandled script b (moved script c w) w.history state
+        IsHandled script b view c (moved script c w) w.history state
     handled_so fits b' shows = handled_as fits b' (board_shown b' shows)
 
 -- nobody is asked for a step

@@ -296,7 +296,7 @@ module _ (now : Moment) (n d serial done : ℕ) (call : SwitchCall)
         ((t : ThreadStep) →
         IsStepped view (carrier_step view K.number t) K (resumed (asked script K) (Section a)) n v ready r r') →
         IfSome (help_after K.help (lock_acquired (step_of V)) (told_in a)) (λ p. p.context < script.table + length w.carriers) →
-        IsHandled script b (moved script c w) w.history state
+        IsHandled script b view c (moved script c w) w.history state
     finish a is v ready r r' steps helps =
         handled_as now (Run Held) asks (Section a) (ap Section is) (λ x. refl) word
         (record {
@@ -366,7 +366,7 @@ module _ (now : Moment) (n d serial done : ℕ) (call : SwitchCall) where
   table_at : Mine.table ≡ script.table
   table_at = table_is now
 
-  acquires : At location.AcquireReady → IsHandled script b (moved script c w) w.history state
+  acquires : At location.AcquireReady → IsHandled script b view c (moved script c w) w.history state
   acquires asks = elim (lock_told (word_at w (name.Lock lock.Ready)) (goods_for w (step.Acquire lock.Ready))) [
     | inl x ↦
         finish now n d serial done call location.AcquireReady asks refl tt
@@ -390,7 +390,7 @@ module _ (now : Moment) (n d serial done : ℕ) (call : SwitchCall) where
       shown_at = shown_in now n d serial done call location.AcquireReady asks
 
   loads : (g : Goal) (lists : Ready) → At (location.Locked (locked.LoadGoal g) lists) →
-      IsHandled script b (moved script c w) w.history state
+      IsHandled script b view c (moved script c w) w.history state
   loads g lists asks =
       finish now n d serial done call (location.Locked (locked.LoadGoal g) lists) asks refl
       (sound now n d serial done call (location.Locked (locked.LoadGoal g) lists)
@@ -402,7 +402,7 @@ module _ (now : Moment) (n d serial done : ℕ) (call : SwitchCall) where
       (word_shown script w b view state k g.id.number)) (k.helps c low)
 
   loads_first : (back : Option Goal) (first : ℕ) (lists : Ready) → At (location.Locked (locked.LoadStart back first) lists) →
-      IsHandled script b (moved script c w) w.history state
+      IsHandled script b view c (moved script c w) w.history state
   loads_first back first lists asks =
       finish now n d serial done call (location.Locked (locked.LoadStart back first) lists) asks
       refl (sound now n d serial done call (location.Locked (locked.LoadStart back first) lists)
@@ -413,7 +413,7 @@ module _ (now : Moment) (n d serial done : ℕ) (call : SwitchCall) where
       (word_shown script w b view state k first)) (k.helps c low)
 
   gives_back : (back started : Option Goal) (r : Ready) → At (location.Locked (locked.ReleaseReady back started) r) →
-      IsHandled script b (moved script c w) w.history state
+      IsHandled script b view c (moved script c w) w.history state
   gives_back back started r asks =
       finish now n d serial done call (location.Locked (locked.ReleaseReady back started) r) asks
       refl tt (answer.Told told.Released) refl _ _ r _
@@ -441,7 +441,7 @@ module _ (now : Moment) (n d serial done : ℕ) (call : SwitchCall) where
             running = k.whole.pair.alike.agrees.running;
           })
 
-  by_location : (l : SwitchLocation) → At l → IsHandled script b (moved script c w) w.history state
+  by_location : (l : SwitchLocation) → At l → IsHandled script b view c (moved script c w) w.history state
   by_location location.AcquireReady asks = acquires asks
   by_location (location.Locked (locked.LoadGoal g) lists) asks = loads g lists asks
   by_location (location.Locked (locked.LoadStart back first) lists) asks = loads_first back first lists asks
@@ -457,12 +457,12 @@ module _ (now : Moment) (n d serial done : ℕ) (call : SwitchCall) where
 
 pub switch_handled : (now : Moment) (n : ℕ) (x : CarrierContext) →
     ask_of (carrier_at now.w now.c) ≡ Run (record { context = n; value = Carrier x }) →
-    IsHandled now.script now.b (moved now.script now.c now.w) now.w.history now.state
+    IsHandled now.script now.b now.view now.c (moved now.script now.c now.w) now.w.history now.state
 switch_handled now n x asks = by x.switch refl
   where
     open now use {script, w, b, view, state, c}
 
-    by : (o : Option Switch) → x.switch ≡ o → IsHandled script b (moved script c w) w.history state
+    by : (o : Option Switch) → x.switch ≡ o → IsHandled script b view c (moved script c w) w.history state
     by (Some s) on =
         by_location now n x.carrier x.serial x.done s.call s.location
         (asks ∙ (λ z. Run (record {

@@ -183,7 +183,7 @@ module _ (now : Moment) (n bits : ℕ)
 
   -- IN VAIN
 
-  lost : (Found == bits) ≡ false → Found ≢ bits → IsHandled script b (moved script c w) w.history state
+  lost : (Found == bits) ≡ false → Found ≢ bits → IsHandled script b view c (moved script c w) w.history state
   lost q ne =
       handled_so now (Take n bits) asks (answer.TakeLost Found) (ap Answered q) (λ x. refl) word
       (heard_after now (resumed (asked_by script K (Take n bits)) (answer.TakeLost Found))
@@ -245,7 +245,7 @@ module _ (now : Moment) (n bits : ℕ)
       held_by g e =
           ap (λ (z : Target). value_taken (Heard now) z v) (ap target_of (still now n bits asks) ∙ e)
 
-      as_it_is : Held ≡ v → IsStill view (carrier_step view c FindsTaken) → IsHandled script b (moved script c w) w.history state
+      as_it_is : Held ≡ v → IsStill view (carrier_step view c FindsTaken) → IsHandled script b view c (moved script c w) w.history state
       as_it_is e calm =
           handled_so now (Take n bits) asks (answer.Took v) answers (λ x. refl) word after b
           (shows_same now n bits asks won v h e) k.serials (stays nobody calm) refl
@@ -269,7 +269,7 @@ module _ (now : Moment) (n bits : ℕ)
         stage_is : (s : Stage) → (view.own z.carrier).stage ≡ s → (view.own K.number).stage ≡ s
         stage_is s e = ap (λ m. (view.own m).stage) (sym own_number) ∙ e
 
-        goes_on : (s : Switch) → z.switch ≡ Some s → IsHandled script b (moved script c w) w.history state
+        goes_on : (s : Switch) → z.switch ≡ Some s → IsHandled script b view c (moved script c w) w.history state
         goes_on s on =
             as_it_is (held_by Own aims ∙ ap (value_taken (Heard now) Own) is
             ∙ ap (λ (o : Option Switch). if is_some o then Carrier z else Carrier (own.with_switch
@@ -284,7 +284,7 @@ module _ (now : Moment) (n bits : ℕ)
         abbrev After : ℕ → Board
         After m = placed b m (record (b.context m) { at = InSwitch Call switch.AcquireReady })
 
-        begins : z.switch ≡ None → IsHandled script b (moved script c w) w.history state
+        begins : z.switch ≡ None → IsHandled script b view c (moved script c w) w.history state
         begins idle =
             handled_so now (Take n bits) asks (answer.Took v) answers (λ x. refl) word after
             (After (b.size + c)) (subst (λ m. Shows script (MapsWith script w c (Take n bits)) (After m)) on_board
@@ -341,13 +341,13 @@ module _ (now : Moment) (n bits : ℕ)
         value a e =
             held_by (GoalOf g) aims ∙ ap (value_taken (Heard now) (GoalOf g)) is ∙ ap WokenIf e
 
-        awake : is_asleep t.activity ≡ false → IsHandled script b (moved script c w) w.history state
+        awake : is_asleep t.activity ≡ false → IsHandled script b view c (moved script c w) w.history state
         awake e =
             as_it_is (value false e ∙ sym is)
             (still_as (takes_by (GoalOf g) aims ∙ ap (taken_goal view K.number g.id.number) condition)
             (still_goal view K.number g.id.number t.activity e))
 
-        asleep : is_asleep t.activity ≡ true → IsHandled script b (moved script c w) w.history state
+        asleep : is_asleep t.activity ≡ true → IsHandled script b view c (moved script c w) w.history state
         asleep e =
             handled_so now (Take n bits) asks (answer.Took v) answers (λ x. refl) word after
             (placed b n (record (b.context n) { at = Alone location.LookAgain }))
@@ -377,7 +377,7 @@ module _ (now : Moment) (n bits : ℕ)
 
       -- BY WHAT IT AIMS AT
 
-      by_aim : (g : Target) → target_of K ≡ g → (u : ContextSeen) → v ≡ u → IsHandled script b (moved script c w) w.history state
+      by_aim : (g : Target) → target_of K ≡ g → (u : ContextSeen) → v ≡ u → IsHandled script b view c (moved script c w) w.history state
       by_aim (Helped x) e u is =
           as_it_is (held_by (Helped x) e) (still_as (takes_by (Helped x) e) (still_taken view K.number (name_of K.table x)))
       by_aim Own e (Thread t) is =
@@ -385,7 +385,7 @@ module _ (now : Moment) (n bits : ℕ)
           let p : n ≡ own_context K = sym place ∙ ap (context_at K) e in omega (arith, i, p))
       by_aim Own e (Carrier z) is = by z.switch refl
         where
-          by : (o : Option Switch) → z.switch ≡ o → IsHandled script b (moved script c w) w.history state
+          by : (o : Option Switch) → z.switch ≡ o → IsHandled script b view c (moved script c w) w.history state
           by None on = begins z is e on
           by (Some s) on = goes_on z is e s on
       by_aim (GoalOf g) e (Carrier z) is =
@@ -398,9 +398,9 @@ module _ (now : Moment) (n bits : ℕ)
         | inr y ↦ awake g t is e y
       ]
 
-    won_handled : IsHandled script b (moved script c w) w.history state
+    won_handled : IsHandled script b view c (moved script c w) w.history state
     won_handled =
         let f = there now n bits asks won in by_aim f.0 f.1 (target_of K) refl f.0 refl
 
-  pub take_handled : IsHandled script b (moved script c w) w.history state
+  pub take_handled : IsHandled script b view c (moved script c w) w.history state
   take_handled = elim (eqb_tells Found bits) [ inl e ↦ won_handled e.0 e.1 | inr e ↦ lost e.0 e.1 ]

@@ -131,7 +131,7 @@ module _ (script : Script) (w : World) (b : Board) (view : tokens.World) (state 
   held_in_hand c (OfThread t) e = hands.thread c t e
   held_in_hand c (OfCarrier d) e = hands.own c d e
 
-  hand_held : (c : ℕ) (x : ContextName) → held_at view x ≡ Some c → (view.carrier c).hand ≡ Some x
+  pub hand_held : (c : ℕ) (x : ContextName) → held_at view x ≡ Some c → (view.carrier c).hand ≡ Some x
   hand_held c (OfThread t) e = hands.thread_is c t e
   hand_held c (OfCarrier d) e = hands.own_is c d e
 

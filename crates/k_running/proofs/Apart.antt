@@ -1,5 +1,5 @@
 -- Who holds up a step isn't the context that makes it: that wants no lock that it owns, and is in a hand.
-use Rattle.std.proofs.Common.{◌≡◌, ℕ, ◌<◌, ◌==◌, Bool, true, false, refl, sym, ap, ◌∙◌, subst, Option, Some, None, arith, inl, inr}
+use Rattle.std.proofs.Common.{◌≡◌, ℕ, ◌==◌, Bool, true, false, refl, sym, ap, ◌∙◌, subst, Option, Some, None, arith, inl, inr}
 use Rattle.std.specs.Prelude.{if◌then◌else◌}
 use Rattle.std.proofs.lemmas.Grind.{common_steps}
 use Rattle.k_ids.specs.declared.context_word.ContextWord.{ContextWord}
@@ -38,7 +38,7 @@ use Rattle.k_plays.specs.Scripts.{ranged_programs}
 use Rattle.k_places.specs.Answers.{answer_in}
 use Rattle.k_places.specs.Contexts.{IsShown, ShowsContext, at_in, switch_at}
 use Rattle.k_places.specs.Memory.{Memory, memory_of}
-use Rattle.k_places.specs.Shows.{Shows, context_in}
+use Rattle.k_places.specs.Shows.{Shows}
 use Rattle.k_places.proofs.Places.{held_is}
 use Rattle.k_places.proofs.Raw.{word_is}
 use Rattle.k_turns.specs.Spelled.{IsSpelled, ask_at, ask_in, ask_of_switch}

@@ -1,21 +1,36 @@
 -- The turn with which a thread's next call begins leaves the carriers as they are.
+use Rattle.std.specs.Prelude.{if◌then◌else◌}
 use Rattle.std.proofs.Common.{◌≡◌, ℕ, Bool, true, false, refl, sym, ap, ◌∙◌, subst, Option, Some, None}
 use Rattle.k_ids.specs.declared.calls.Phase.{Phase}
 use Rattle.k_ids.specs.declared.calls.Phase.TheVariants as phase
 use Rattle.k_ids.specs.declared.calls.Reply.{Reply}
 use Rattle.k_ids.specs.declared.state_word.StateWord.{StateWord}
 use Rattle.k_ids.specs.declared.threads.ThreadId.{ThreadId}
+use Rattle.k_locks.specs.Asks as asks
+use Rattle.k_locks.specs.Hands.{nothing}
 use Rattle.k_model.specs.Maps.{upd}
+use Rattle.k_model.specs.State.{same_id}
 use Rattle.k_model.proofs.Maps.{upd_same}
 use Rattle.k_script.specs.declared.registers.Next.{Next}
 use Rattle.k_script.specs.declared.registers.Next.TheVariants as next
 use Rattle.k_script.specs.Script.{Script}
 use Rattle.k_script.specs.Plays.{next_of, went_on}
+use Rattle.k_threads.specs.declared.destroy.DestroyOutside.TheVariants as destroy_outside
+use Rattle.k_threads.specs.CreateTable as create
+use Rattle.k_threads.specs.DestroyTable as destroy
+use Rattle.k_turns.specs.Spelled.{ask_in}
+use Rattle.k_ipc.specs.ReceiveTable as receive
+use Rattle.k_ipc.specs.SendTable as send
+use Rattle.k_turns.proofs.AloneSteps.{usual as alone_usual}
+use Rattle.k_turns.proofs.ReceiveSteps.{usual as receive_usual}
+use Rattle.k_turns.proofs.SendSteps.{usual as send_usual}
+use Rattle.k_caller.specs.declared.activity.Activity.{Activity}
 use Rattle.k_caller.specs.declared.activity.Activity.TheVariants as activity
 use Rattle.k_caller.specs.declared.thread.ThreadLocation.TheVariants as location
 use Rattle.k_caller.specs.Activities as activities
 use Rattle.k_caller.specs.Threads.{ThreadSeen, begun, begun_at, begun_by, begun_next}
 use Rattle.k_caller.specs.Waits.{can_ask}
+use Rattle.k_caller.specs.Waits as alone
 use Rattle.k_board.specs.Words.{Programs}
 use Rattle.k_board.specs.Boards.{Alone, Board, InCreate, InDestroy, InReceive, InSend, InSwitch}
 use Rattle.k_board.specs.Turns.{Turn, sends, receives, creates, destroys, goes_alone, begins}
@@ -29,6 +44,7 @@ use Rattle.k_grants.specs.Granted.{IsMade, is_again}
 use Rattle.k_grants.specs.Views.{held_of}
 use Rattle.k_moves.specs.Views.{condition_of}
 use Rattle.k_moves.specs.Told.{IsPush}
+use Rattle.k_running.proofs.Again.{create_removes, no_remove}
 
 -- A THREAD WHOSE CALL HAS BEGUN is the same thread, awake, and holds no lock
 
@@ -63,6 +79,54 @@ pub begun_calm : (script : Script) (t : ThreadSeen) (last : Option Reply) → t.
 begun_calm script t last e =
     subst (λ a. IsCalm t.id (begun_at script t a)) (sym e)
     (next_calm script.table (record t { position = went_on t.position last }) (next_of script.version t.position last))
+
+-- it removes no context with its first step
+
+abbrev is_destroy : Activity → Bool
+is_destroy (activity.Destroy s) = true
+is_destroy a = false
+
+others_remove : (me : ThreadId) (own : StateWord) (a : Activity) → is_destroy a ≡ false → (id : ThreadId) →
+    ask_in me own a ≡ asks.Remove id → ⊥
+others_remove me own (activity.Alone p) q id e = no_remove (alone.ask_of me own p) (alone_usual me own p) id e
+others_remove me own (activity.Send s) q id e =
+    no_remove (send.ask_of s.call s.own (send.at_of s.location)) (send_usual s.call s.own (send.at_of s.location)) id e
+others_remove me own (activity.Receive s) q id e =
+    no_remove (receive.ask_of s.call s.own (receive.at_of s.location))
+    (receive_usual s.call s.own (receive.at_of s.location)) id e
+others_remove me own (activity.Create s) q id e = create_removes s.call s.own (create.at_of s.location) id e
+others_remove me own (activity.Destroy s) q id e = absurd cc
+
+call_removes : (size : ℕ) (me : ThreadId) (own : StateWord) (f : Phase) (id : ThreadId) →
+    ask_in me own (begun_by size me own f) ≡ asks.Remove id → ⊥
+call_removes size me own (phase.Send to message zero joined) id e =
+    others_remove me own (begun_by size me own (phase.Send to message zero joined)) refl id e
+call_removes size me own (phase.Reply to message zero) id e =
+    others_remove me own (begun_by size me own (phase.Reply to message zero)) refl id e
+call_removes size me own (phase.Receive from zero) id e =
+    others_remove me own (begun_by size me own (phase.Receive from zero)) refl id e
+call_removes size me own (phase.Create program priority) id e =
+    others_remove me own (begun_by size me own (phase.Create program priority)) refl id e
+call_removes size me own (phase.Destroy who) id e = by (same_id who me) e
+  where
+    by : (q : Bool) → destroy.ask_of (record { caller = me; who = who; count = size }) own
+        (destroy.at_of (destroy.location_with nothing
+        (destroy.Outside (if q then destroy_outside.LoadOwn else destroy_outside.AcquireTable)))) ≡ asks.Remove id → ⊥
+    by true z = absurd cc
+    by false z = absurd cc
+call_removes size me own phase.End id e = others_remove me own (begun_by size me own phase.End) refl id e
+
+next_removes : (size : ℕ) (t : ThreadSeen) (n : Next) (id : ThreadId) →
+    ask_in (begun_next size t n).id (begun_next size t n).own (begun_next size t n).activity ≡ asks.Remove id → ⊥
+next_removes size t (next.Phase f) id e = call_removes size t.id t.own f id e
+next_removes size t (next.Work count) id e =
+    others_remove t.id t.own (activity.Alone (location.Work count)) refl id e
+
+pub begun_removes : (script : Script) (t : ThreadSeen) (last : Option Reply) → t.activity ≡ activity.Alone (location.Between last) →
+    (id : ThreadId) → ask_in (begun script t).id (begun script t).own (begun script t).activity ≡ asks.Remove id → ⊥
+begun_removes script t last e id q =
+    next_removes script.table (record t { position = went_on t.position last }) (next_of script.version t.position last) id
+    (subst (λ a. ask_in (begun_at script t a).id (begun_at script t a).own (begun_at script t a).activity ≡ asks.Remove id) e q)
 
 -- THE TURN is no step that waits
 

@@ -1,5 +1,5 @@
 -- A carrier's step can be made, and its entry is of numbers that there are.
-use Rattle.std.proofs.Common.{◌≡◌, ℕ, ◌+◌, ◌-◌, ◌^◌, ◌<◌, ◌≤◌, refl, Option, Some, None, arith, length}
+use Rattle.std.proofs.Common.{◌≡◌, ℕ, ◌-◌, ◌^◌, ◌<◌, refl, Option, Some, None, arith, length}
 use Rattle.std.specs.Prelude.{IfSome}
 use Rattle.k_ids.specs.declared.calls.Act.{Act}
 use Rattle.k_ids.specs.declared.calls.Act.TheVariants as act

@@ -1,20 +1,17 @@
 -- Who holds up a step can be told of, and isn't the context that makes it.
-use Rattle.std.proofs.Common.{◌≡◌, ℕ, ◌+◌, ◌<◌, ◌≤◌, ◌==◌, Bool, true, false, refl, sym, ap, ◌∙◌, subst, Option, Some, None, arith}
-use Rattle.std.proofs.Common.{length, get_or, ◌⊎◌, inl, inr}
-use Rattle.std.specs.Prelude.{IfSome, if◌then◌else◌}
+use Rattle.std.proofs.Common.{◌≡◌, ℕ, ◌+◌, ◌<◌, ◌≤◌, refl, sym, ap, ◌∙◌, subst, Option, Some, None, arith}
+use Rattle.std.proofs.Common.{length, ◌⊎◌, inl, inr}
+use Rattle.std.specs.Prelude.{IfSome}
 use Rattle.std.proofs.lemmas.Bool.{cases_lt}
 use Rattle.std.proofs.lemmas.List.{get_or_past}
 use Rattle.k_ids.specs.declared.context_word.ContextWord.{ContextWord}
 use Rattle.k_ids.specs.declared.context_word.ContextWord.TheVariants as word
 use Rattle.k_ids.specs.ContextWords.{IsContextSpelling, context_word_of}
-use Rattle.k_locks.specs.declared.locks.Lock.{Lock}
 use Rattle.k_locks.specs.declared.locks.WordName.TheVariants as name
 use Rattle.k_locks.specs.declared.steps.Answer.{Answer}
 use Rattle.k_locks.specs.declared.steps.Answer.TheVariants as answer
 use Rattle.k_locks.specs.declared.steps.Step.{Step}
-use Rattle.k_locks.specs.declared.steps.Told.{Told}
 use Rattle.k_locks.specs.declared.steps.Told.TheVariants as told
-use Rattle.k_locks.specs.Places.{slot_of}
 use Rattle.k_locks.specs.Steps.{answer_of, word_of}
 use Rattle.k_script.specs.Script.{Script}
 use Rattle.k_context.specs.Contexts.{ContextSeen, begun, step_of}
@@ -22,20 +19,20 @@ use Rattle.k_context.specs.Contexts as contexts
 use Rattle.k_carrier.specs.declared.marks.Want.{Want}
 use Rattle.k_carrier.specs.declared.moves.Help.{Help}
 use Rattle.k_carrier.specs.Answers as answers
-use Rattle.k_carrier.specs.Asked.{CarrierAsk, LookAt, PutDown, Run, Take, ask_of, asked, asked_by, move_by, out_of}
+use Rattle.k_carrier.specs.Asked.{CarrierAsk, LookAt, PutDown, Run, Take, ask_of, asked_by, move_by}
 use Rattle.k_carrier.specs.Resumed.{help_after, resumed, told_in}
 use Rattle.k_carrier.specs.Rules.{readied}
 use Rattle.k_carrier.specs.Seen.{CarrierSeen, HandSeen, new_carrier}
 use Rattle.k_store.specs.Conditions.{IsNumber}
-use Rattle.k_world.specs.Marks.{Course, HeldUp, Onward, Still, course_by, course_of}
-use Rattle.k_world.specs.Moves.{answer_by, found_by, goods_for}
+use Rattle.k_world.specs.Marks.{Course, HeldUp, course_by, course_of}
+use Rattle.k_world.specs.Moves.{answer_by, goods_for}
 use Rattle.k_world.specs.Steps.{course_in, moved, step_in}
-use Rattle.k_world.specs.Worlds.{Slot, World, carrier_at, resting_in, slot_at, word_at}
+use Rattle.k_world.specs.Worlds.{World, carrier_at, resting_in, word_at}
 use Rattle.k_world.proofs.Worlds.{sized_moved}
 use Rattle.k_places.specs.Memory.{Memory, at, memory_of}
 use Rattle.k_places.specs.Shows.{IsInHand as IsHeldAs, Stands, context_by}
 use Rattle.k_places.proofs.Raw.{word_is}
-use Rattle.k_joint.proofs.Runs.{hand_is, hand_of_run}
+use Rattle.k_joint.proofs.Runs.{hand_is}
 use Rattle.k_aligned.specs.Aligned.{found_in}
 use Rattle.k_running.specs.Running.{KernelHolds}
 use Rattle.k_running.specs.Turning.{CanFind, IsElsewhere, IsInHand, IsKnown, IsThere, RestsSound, context_word_at}

@@ -189,7 +189,7 @@ module _ (script : Script) (m : Memory) (b : Board) (sh : Shows script m b) (h :
   told_holds (asks.Place id program priority) o e = absurd cc
 
 -- the one that is to be removed is a thread of the table
-removed_within : (size : ℕ) (t : ThreadSeen) (a : Activity) → FitsAt size (at_in a) → (id : ThreadId) →
+pub removed_within : (size : ℕ) (t : ThreadSeen) (a : Activity) → FitsAt size (at_in a) → (id : ThreadId) →
     ask_in t.id t.own a ≡ asks.Remove id → id.number < size
 removed_within size t (activity.Alone p) f id e =
     absurd (no_remove (alone.ask_of t.id t.own p) (alone_usual t.id t.own p) id e)

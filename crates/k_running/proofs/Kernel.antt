@@ -1,49 +1,37 @@
 -- A move of a carrier keeps the kernel, whatever it asks for.
-use Rattle.std.proofs.Common.{◌≡◌, ℕ, ◌<◌, ◌==◌, Bool, true, false, refl, sym, ap, ◌∙◌, subst, Option, Some, None, length, ◌⊎◌, inl, inr}
-use Rattle.std.proofs.lemmas.Bool.{eqb-true}
-use Rattle.k_ids.specs.declared.state_word.StateWord.{StateWord}
+use Rattle.std.proofs.Common.{◌≡◌, ℕ, ◌<◌, refl, sym, ◌∙◌, subst, Some, length, inl, inr}
 use Rattle.k_model.specs.State.{KernelState}
 use Rattle.k_script.specs.Limits.{IsScript}
 use Rattle.k_script.specs.Script.{Script}
 use Rattle.k_caller.specs.Threads.{ThreadSeen}
 use Rattle.k_switch.specs.declared.carrier_context.CarrierContext.{CarrierContext}
-use Rattle.k_context.specs.Contexts.{Carrier, ContextSeen, IsSound, Thread, begun}
+use Rattle.k_context.specs.Contexts.{Carrier, ContextSeen, IsSound, Thread}
 use Rattle.k_carrier.specs.Asked.{CarrierAsk, LookAt, PutDown, Run, Take, ask_of}
-use Rattle.k_carrier.specs.Conditions.{CanAsk}
-use Rattle.k_carrier.specs.Conditions as carriers
 use Rattle.k_carrier.specs.Seen.{CarrierSeen, HandSeen}
 use Rattle.k_world.specs.Lawful.{IsLawfulLog}
-use Rattle.k_world.specs.Steps.{moved, step_in}
-use Rattle.k_world.specs.Worlds.{World, carrier_at, state_at}
+use Rattle.k_world.specs.Steps.{moved}
+use Rattle.k_world.specs.Worlds.{World, carrier_at}
 use Rattle.k_world.proofs.Worlds.{lawful_moved, sized_moved}
-use Rattle.k_board.specs.Boards.{Board, Coming, Context}
+use Rattle.k_board.specs.Boards.{Board}
 use Rattle.k_board.specs.Turns.{Turn}
-use Rattle.k_board.specs.Words.{Programs}
 use Rattle.k_plays.specs.Scripts.{programs_of, ranged_programs}
-use Rattle.k_places.specs.Fits.{IsStepWithin}
 use Rattle.k_places.specs.Memory.{Memory, memory_of}
-use Rattle.k_places.specs.Shows.{Shows}
 use Rattle.k_places.proofs.Places.{held_is}
 use Rattle.k_turns.specs.Sections.{Turns}
 use Rattle.k_joint.proofs.Runs.{hand_is, hand_of_run}
 use Rattle.k_tokens.specs.World.{ContextName, OfThread}
 use Rattle.k_tokens.specs.World as tokens
-use Rattle.k_switching.specs.Claims.{IsAsked}
-use Rattle.k_whole.specs.Next.{has_next, number_of}
 use Rattle.k_whole.specs.Whole.{WholeHolds}
-use Rattle.k_kernel.specs.Moves.{CanMove, HasRoom, IsMade, IsRunnable, IsSpelledIn}
+use Rattle.k_kernel.specs.Moves.{HasRoom, IsRunnable}
 use Rattle.k_kernel.specs.Serials.{SerialsHold}
 use Rattle.k_kernel.specs.Worlds.{WorldHolds}
-use Rattle.k_kernel.proofs.Runs.{word_seen}
-use Rattle.k_aligned.specs.Aligned.{AreAligned, found_in}
+use Rattle.k_aligned.specs.Aligned.{found_in}
 use Rattle.k_spelled.specs.Words.{WordsHold}
 use Rattle.k_handling.specs.Handling.{AreMatched, HelpsWithin, IsHandled, IsKernel, IsTurned}
 use Rattle.k_counted.specs.Marks.{MarksHold}
 use Rattle.k_conditions.specs.Stays.{AllSound}
 use Rattle.k_running.specs.Running.{KernelHolds}
 use Rattle.k_running.specs.Threads.{HasRun}
-use Rattle.k_running.proofs.Asked.{is_asked}
-use Rattle.k_running.proofs.Shown.{IsFoundAt, thread_shown, version_shown}
 use Rattle.k_running.proofs.Threads.{has_run}
 
 -- as k_handling has it
@@ -125,8 +113,9 @@ module _ (script : Script) (limits : IsScript script) (w : World) (h : KernelHol
   abbrev pub WordsTurned : Type 0
   WordsTurned = (i : ℕ) (b : Board) → Turn (ranged_programs script) h.board i b → WordsHold b
 
-  ran : (n : ℕ) → HasRun script h.board n (moved script c w) → WordsAfter → HasMoved script (moved script c w)
-  ran n r words = record {
+  ran : (n : ℕ) (t : ThreadSeen) → HasRun script h.board h.view w.history c n t (moved script c w) → WordsAfter →
+      HasMoved script (moved script c w)
+  ran n t r words = record {
     board = r.board;
     view = r.view;
     state = r.state;
@@ -137,7 +126,7 @@ module _ (script : Script) (limits : IsScript script) (w : World) (h : KernelHol
     spelled = words n r.count r.board r.turns;
   }
 
-  handled : IsHandled script h.board (moved script c w) w.history h.state → WordsTurned → HasMoved script (moved script c w)
+  handled : IsHandled script h.board h.view c (moved script c w) w.history h.state → WordsTurned → HasMoved script (moved script c w)
   handled r words = record {
     board = r.board;
     view = r.view;
@@ -155,7 +144,7 @@ module _ (script : Script) (limits : IsScript script) (w : World) (h : KernelHol
 
   -- every move that is no step of a thread's context is handled
   abbrev pub Handles : CarrierAsk → Type 0
-  Handles a = ask_of K ≡ a → IsHandled script h.board (moved script c w) w.history h.state
+  Handles a = ask_of K ≡ a → IsHandled script h.board h.view c (moved script c w) w.history h.state
 
   pub has_moved : HasRoom script → IsRunnable script c w → WordsAfter → WordsTurned → ((n : ℕ) → Handles (LookAt n)) →
       ((n bits : ℕ) → Handles (Take n bits)) → ((x : HandSeen) → Handles (PutDown x)) →
@@ -165,7 +154,7 @@ module _ (script : Script) (limits : IsScript script) (w : World) (h : KernelHol
     where
       runs : (n : ℕ) (v : ContextSeen) → ask_of K ≡ Run (record { context = n; value = v }) → HasMoved script (moved script c w)
       runs n (Thread t) e =
-          ran n (has_run script limits room w h.board h.view h.state (kernel_of script w h) c n t run e) after
+          ran n t (has_run script limits room w h.board h.view h.state (kernel_of script w h) c n t run e) after
       runs n (Carrier z) e = handled (switches n z e) turned
 
       by : (a : CarrierAsk) → ask_of K ≡ a → HasMoved script (moved script c w)

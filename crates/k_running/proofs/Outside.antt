@@ -1,17 +1,14 @@
 -- What comes from outside keeps the kernel.
-use Rattle.std.proofs.Common.{◌≡◌, ℕ, refl, sym, ap, ◌∙◌, subst, Option, Some, length}
-use Rattle.k_model.specs.State.{KernelState}
+use Rattle.std.proofs.Common.{◌≡◌, ℕ, refl, sym, ap, ◌∙◌, subst}
 use Rattle.k_script.specs.Script.{Script}
-use Rattle.k_context.specs.Contexts.{ContextSeen}
 use Rattle.k_world.specs.Frames.{IsSized}
 use Rattle.k_world.specs.Lawful.{IsLawfulLog}
 use Rattle.k_world.specs.Steps.{parked, sliced, started}
-use Rattle.k_world.specs.Worlds.{WaitLog, World}
+use Rattle.k_world.specs.Worlds.{World}
 use Rattle.k_world.proofs.Worlds.{sized_parked, sized_sliced, sized_started}
 use Rattle.k_places.specs.Memory.{Memory, memory_of}
 use Rattle.k_places.specs.Shows.{context_in}
 use Rattle.k_places.proofs.Raw.{maps_parked, maps_sliced, maps_started}
-use Rattle.k_spelled.specs.Words.{WordsHold}
 use Rattle.k_handling.specs.Handling.{HasKernel}
 use Rattle.k_conditions.specs.Finished.{FinishedWithin}
 use Rattle.k_counted.specs.Marks.{MarksHold}

@@ -1,9 +1,13 @@
 -- A step of a thread's context, in the raw world, on the board and in the view: from one moment to the next.
 use Rattle.std.proofs.Common.{◌≡◌, ℕ, ◌+◌, ◌<◌, true, refl, sym, ap, ◌∙◌, subst, Option, Some, List, [], ◌++◌, length}
 use Rattle.k_ids.specs.declared.histories.Entry.{Entry}
+use Rattle.k_ids.specs.declared.threads.ThreadId.{ThreadId}
+use Rattle.k_ids.specs.ContextWords.{context_word_of}
+use Rattle.k_locks.specs.Asks.{Remove}
 use Rattle.k_locks.specs.Steps as steps
 use Rattle.k_locks.specs.Steps.{answer_of, word_of}
 use Rattle.k_locks.specs.declared.locks.Lock.{Lock}
+use Rattle.k_locks.specs.declared.points.Point.{Point}
 use Rattle.k_locks.specs.declared.steps.Answer.{Answer}
 use Rattle.k_locks.specs.declared.steps.Step.{Step}
 use Rattle.k_model.specs.Maps.{upd}
@@ -41,6 +45,7 @@ use Rattle.k_tokens.specs.World as tokens
 use Rattle.k_tokens.specs.Steps.{ThreadStep, after_step}
 use Rattle.k_switching.specs.Claims.{IsAsked}
 use Rattle.k_switching.specs.Rules.{carrier_step}
+use Rattle.k_switching.specs.Rules as rules
 use Rattle.k_switching.proofs.Rules.{is_run}
 use Rattle.k_grants.specs.Granted.{Finding, IsFound, IsFreeToRemove, is_again}
 use Rattle.k_moves.specs.Sums.{AreViewed}
@@ -52,6 +57,7 @@ use Rattle.k_moves.proofs.Threads.{thread_carrier}
 use Rattle.k_aligned.specs.Aligned.{IsAligned}
 use Rattle.k_handling.specs.Handling.{IsKernel}
 use Rattle.k_whole.proofs.Hands.{step_one}
+use Rattle.k_running.specs.Threads.{HasMade}
 use Rattle.k_running.proofs.Again.{again_alike, is_removing}
 use Rattle.k_running.proofs.Begun.{push_is, unmade_left}
 use Rattle.k_running.proofs.Free.{is_free}
@@ -104,9 +110,11 @@ module _ (script : Script) (limits : IsScript script) (w : World) (b : Board) (v
     pub thread : ShowsThread v.threads K.table n t
     pub hand : (h : HandSeen) → upd m.hand c (Some h) ≡ upd M.hand c (Some h)
     pub answers : answer_in m S ≡ answer_in M S
+    pub words : (id : ThreadId) → ask_in T.id T.own T.activity ≡ Remove id →
+        rules.word_of v (OfThread id.number) ≡ context_word_of (m.context id.number)
 
-  -- after the move, with this history
-  pub record HasStepped (b' : Board) (es : List Entry) : Type 0 where
+  -- after the move, with this history, from this board, these carriers and that history
+  pub record HasStepped (b0 : Board) (v : tokens.World) (before : List Entry) (b' : Board) (es : List Entry) : Type 0 where
     pub world : tokens.World
     pub viewed : AreViewed (moved script c w) world
     pub stands : Stands script b' world es
@@ -114,6 +122,7 @@ module _ (script : Script) (limits : IsScript script) (w : World) (b : Board) (v
     pub unmade : world.unmade ≡ view.unmade
     pub answered : answer_by w (out_of script K) ≡ answers.Section (answer_in M S)
     pub help : IsWithin (script.table + length w.carriers) (help_after K.help Wanted (told_in (answer_in M S)))
+    pub made : HasMade script c n T b0 v before b' world es
 
   module _ (m : Memory) (b0 : Board) (v : tokens.World) (es : List Entry) (h : IsMoment m b0 v es)
       (can : activities.can_ask T.activity ≡ true) (spelled : IsSpelled script.table (ask_in T.id T.own T.activity))
@@ -220,7 +229,35 @@ module _ (script : Script) (limits : IsScript script) (w : World) (b : Board) (v
     entries : es ++ entries_of b0 (turn_point (programs_of script) b0 n o.board o.turn) ≡ es ++ recorded made []
     entries = ap (λ z. es ++ z) o.entries
 
-    pub has_stepped : HasStepped o.board (es ++ recorded made [])
+    stepped : HasMade script c n T b0 v es o.board v' (es ++ recorded made [])
+    stepped = record {
+      turned = record {
+        found = F;
+        asked = h.asked;
+        waits = waits_so K.table Wanted (told_in X);
+        free = free;
+        turn = turned.turn;
+        made = Granted_step;
+        kind = turned.kind;
+        grants = turned.grants;
+        leads = refl;
+      };
+      maps = m;
+      size = K.table;
+      goal = K.goal;
+      shows = h.shows;
+      sized = carrier.sound.table ∙ sym h.shows.size;
+      there = h.found;
+      made = h.made;
+      can = can;
+      spelled = spelled;
+      words = h.words;
+      finds = refl;
+      again = again;
+      grows = ap (λ z. es ++ z) (sym o.entries) ∙ ap (λ (p : Option Point). es ++ entries_of b0 p) (sym turned.point);
+    }
+
+    pub has_stepped : HasStepped b0 v es o.board (es ++ recorded made [])
     has_stepped = record {
       world = v';
       viewed =
@@ -232,4 +269,5 @@ module _ (script : Script) (limits : IsScript script) (w : World) (b : Board) (v
       unmade = ap (λ (x : tokens.World). x.unmade) taken ∙ unmade_left v c n Granted_step ∙ h.unmade;
       answered = answered;
       help = helps;
+      made = stepped;
     }

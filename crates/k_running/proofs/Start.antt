@@ -1,5 +1,5 @@
 -- The kernel holds at the start.
-use Rattle.std.proofs.Common.{◌≡◌, ◌≤◌, ℕ, sym, ◌∙◌, length}
+use Rattle.std.proofs.Common.{◌≤◌, ℕ, sym, ◌∙◌}
 use Rattle.k_script.specs.Limits.{IsScript}
 use Rattle.k_script.specs.Plays.{opened_for}
 use Rattle.k_script.specs.Script.{Script}

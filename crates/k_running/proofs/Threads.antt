@@ -1,12 +1,16 @@
 -- A step of a thread's context keeps the kernel.
 use Rattle.std.proofs.Common.{◌≡◌, ◌≢◌, ℕ, ◌+◌, ◌<◌, ◌≤◌, false, refl, sym, ap, ◌∙◌, subst, Option, Some, List, [], ◌++◌}
-use Rattle.std.proofs.Common.{length, get_or, inl, inr}
+use Rattle.std.proofs.Common.{arith, length, get_or, ◌⊎◌, inl, inr}
 use Rattle.std.specs.Prelude.{IfSome, slice_set}
 use Rattle.std.proofs.lemmas.Bool.Decides.{eqb_tells}
 use Rattle.std.proofs.lemmas.List.{append-nil, get_or-set_other, get_or-set_same, length-set}
 use Rattle.k_ids.specs.declared.calls.Reply.{Reply}
 use Rattle.k_ids.specs.declared.histories.Entry.{Entry}
-use Rattle.k_locks.specs.Steps.{answer_of, word_of}
+use Rattle.k_ids.specs.declared.threads.ThreadId.{ThreadId}
+use Rattle.k_ids.specs.ContextWords.{context_word_of}
+use Rattle.k_locks.specs.Asks.{Remove}
+use Rattle.k_locks.specs.Steps.{answer_of}
+use Rattle.k_locks.specs.Steps as steps
 use Rattle.k_locks.specs.declared.points.Point.{Point}
 use Rattle.k_model.specs.State.{KernelState}
 use Rattle.k_model.proofs.Maps.{upd_other, upd_same}
@@ -28,6 +32,7 @@ use Rattle.k_world.specs.Moves.{answer_by}
 use Rattle.k_world.specs.Steps.{moved, recorded, step_in}
 use Rattle.k_world.specs.Worlds.{World, carrier_at}
 use Rattle.k_board.specs.Boards.{Board, id_at}
+use Rattle.k_good.specs.Ranges.{FitsAt}
 use Rattle.k_legal.specs.Runs.{entries_of}
 use Rattle.k_points.specs.Points.{turn_point}
 use Rattle.k_plays.specs.Scripts.{programs_of, ranged_programs}
@@ -37,6 +42,7 @@ use Rattle.k_places.specs.Memory.{Memory, memory_of}
 use Rattle.k_places.specs.Shows.{Shows, ShowsBoard}
 use Rattle.k_places.proofs.Held.{with_hand}
 use Rattle.k_places.proofs.Places.{held_is}
+use Rattle.k_turns.specs.Spelled.{ask_in}
 use Rattle.k_turns.specs.Sections.{Comes, Turns, more, none, section_entry, section_maps}
 use Rattle.k_turns.proofs.Begins.{IsBegun}
 use Rattle.k_turns.proofs.Begins as begins
@@ -48,11 +54,12 @@ use Rattle.k_tokens.specs.World.{Awake, OfThread, no_locks}
 use Rattle.k_tokens.specs.World as tokens
 use Rattle.k_tokens.specs.Steps.{FindsTaken, ThreadStep, after_step}
 use Rattle.k_switching.specs.Claims.{IsAsked}
-use Rattle.k_switching.specs.Rules.{carrier_step}
+use Rattle.k_switching.specs.Rules.{carrier_step, word_of}
 use Rattle.k_grants.specs.Granted.{Agrees, Finding, IsFound, IsFreeToRemove, IsMade}
 use Rattle.k_grants.specs.Views.{held_of, look_at}
 use Rattle.k_moves.specs.Sums.{AreViewed}
 use Rattle.k_moves.specs.Views.{ShowsThread, carrier_view, condition_of}
+use Rattle.k_moves.proofs.Names.{name_inside}
 use Rattle.k_caller.specs.Activities.{locks_of}
 use Rattle.k_kernel.specs.Moves.{CanMove, HasRoom, IsRunnable, IsSpelledIn}
 use Rattle.k_kernel.specs.Worlds.{WorldHolds}
@@ -61,10 +68,12 @@ use Rattle.k_kernel.specs.Serials.{SerialsHold}
 use Rattle.k_whole.specs.Whole.{WholeHolds}
 use Rattle.k_whole.proofs.Hands.{step_one}
 use Rattle.k_handling.specs.Handling.{IsKernel, IsMatched}
-use Rattle.k_running.specs.Threads.{HasRun}
+use Rattle.k_handling.proofs.Words.{word_shown}
+use Rattle.k_running.specs.Threads.{HasBegun, HasBegunAndMade, HasMade, HasRun}
 use Rattle.k_running.proofs.Asked.{asked_still, is_asked}
-use Rattle.k_running.proofs.Begun.{IsCalm, begun_again, begun_calm, carriers_left, unmade_left}
+use Rattle.k_running.proofs.Begun.{IsCalm, begun_again, begun_calm, begun_removes, carriers_left, unmade_left}
 use Rattle.k_running.proofs.Free.{is_free}
+use Rattle.k_running.proofs.Helped.{removed_within}
 use Rattle.k_running.proofs.One.{ComesOnce, comes_once}
 use Rattle.k_running.proofs.Run.{HasStepped, has_stepped}
 use Rattle.k_running.proofs.Shown.{IsFoundAt, condition_shown, is_thread, push_shown, stands, thread_shown}
@@ -172,35 +181,49 @@ module _ (script : Script) (limits : IsScript script) (room : HasRoom script) (w
   viewed : AreViewed w view
   viewed = record { carriers = λ d few. (kernel.aligned.carriers d few).viewed }
 
-  -- the board that is shown after the move, with the carriers then
+  -- the history after the move
+  abbrev Then : List Entry
+  Then = w.history ++ recorded Made []
+
+  -- The board that is shown after the move, with the carriers then; its last turn is from this board and these carriers.
   record IsDone : Type 0 where
+    from : Board
+    seen : tokens.World
     board : Board
     count : ℕ
     turns : Turns (programs_of script) n count b board
     shows : Shows script (section_maps script Mem c n (Thread Begun)) board
-    stepped : HasStepped script limits w b view state kernel c n t low asks board (w.history ++ recorded Made [])
+    stepped : HasStepped script limits w b view state kernel c n t low asks from seen w.history board Then
+    ways : HasMade script c n Begun b view w.history board stepped.world Then
+        ⊎ HasBegunAndMade script c n Begun b view w.history board stepped.world Then
 
   -- A STEP OF A CALL
   module _ (same : Begun ≡ t) where
+    -- a context that it is to remove has its word in the view
+    words : (id : ThreadId) → ask_in Begun.id Begun.own Begun.activity ≡ Remove id →
+        word_of view (OfThread id.number) ≡ context_word_of (Mem.context id.number)
+    words id e =
+        ap (word_of view) (sym (name_inside script.table id.number small))
+        ∙ word_shown script w b view state kernel id.number (omega (arith, small))
+      where
+        at : (b.context n).at ≡ at_in Begun.activity
+        at = stands script Mem b sh n t found ready.made ∙ ap (λ (u : ThreadSeen). at_in u.activity) (sym same)
+
+        small : id.number < script.table
+        small =
+            subst (λ k. id.number < k) sh.size
+            (removed_within b.size Begun Begun.activity (subst (FitsAt b.size) at (kernel.whole.pair.within.targets n)) id e)
+
     goes_on : IsDone
     goes_on = record {
+      from = b;
+      seen = view;
       board = once.board;
       count = 1;
       turns = more b once.board once.board once.turn (none once.board);
       shows = once.shows;
-      stepped = has_stepped script limits w b view state kernel c n t low asks Mem b view w.history (record {
-        shows = sh;
-        stands = first;
-        viewed = viewed;
-        count = refl;
-        unmade = refl;
-        found = subst (IsFoundAt Mem n) (sym same) found;
-        made = ready.made;
-        asked = asked_first;
-        thread = thread;
-        hand = λ h. refl;
-        answers = refl;
-      }) ready.asks ready.spelled Made once;
+      stepped = stepped;
+      ways = inl stepped.made;
     }
       where
         once : ComesOnce script (programs_of script) n b (section_maps script Mem c n (Thread Begun)) Made
@@ -208,6 +231,23 @@ module _ (script : Script) (limits : IsScript script) (room : HasRoom script) (w
             comes_once script (programs_of script) n b (section_maps script Mem c n (Thread Begun)) Made
             (subst (λ (u : ThreadSeen). Comes script (programs_of script) n 1 b (section_maps script Mem c n (Thread u))
             (section_entry Mem n (Thread u))) (sym same) (step_comes script Mem b c Hand sh in_hand ready t refl same))
+
+        stepped : HasStepped script limits w b view state kernel c n t low asks b view w.history once.board Then
+        stepped =
+            has_stepped script limits w b view state kernel c n t low asks Mem b view w.history (record {
+              shows = sh;
+              stands = first;
+              viewed = viewed;
+              count = refl;
+              unmade = refl;
+              found = subst (IsFoundAt Mem n) (sym same) found;
+              made = ready.made;
+              asked = asked_first;
+              thread = thread;
+              hand = λ h. refl;
+              answers = refl;
+              words = words;
+            }) ready.asks ready.spelled Made once
 
   -- A CALL THAT BEGINS, and its first step
   module _ (last : Option Reply) (e : t.activity ≡ activity.Alone (location.Between last)) where
@@ -288,35 +328,51 @@ module _ (script : Script) (limits : IsScript script) (room : HasRoom script) (w
         asked_still view V1 n (thread.locks ∙ free_locks ∙ sym locks1) (thread.made ∙ sym version1) c
         (ap (λ (f : ℕ → tokens.Carrier). f c) (sym carriers1)) asked_first
 
+    stands1 : Stands script B1 V1 w.history
+    stands1 =
+        subst (Stands script B1 V1)
+        (ap (λ (p : Option Point). w.history ++ entries_of b p) begun.silent ∙ append-nil w.history) turned1.stands
+
+    begins1 : HasBegun script c n b view B1 V1
+    begins1 = record {
+      turned = record {
+        found = Nothing;
+        asked = asked_first;
+        waits = tt;
+        free = free1;
+        turn = turned1.turn;
+        made = S1;
+        kind = turned1.kind;
+        grants = turned1.grants;
+        leads = refl;
+      };
+      last = last;
+      between = stands script Mem b sh n t found ready.made ∙ ap at_in e;
+      below = refl;
+      goes = begun_again (ranged_programs script) b n B1 turned1.turn last
+          (stands script Mem b sh n t found ready.made ∙ ap at_in e);
+      silent = turned1.point ∙ begun.silent;
+      carriers = carriers1;
+    }
+
     begins_on : IsDone
     begins_on = record {
+      from = B1;
+      seen = V1;
       board = once.board;
       count = 2;
       turns = more b B1 once.board begun.turn (more B1 once.board once.board once.turn (none once.board));
       shows =
           subst (λ (m : Memory). Shows script m once.board) (same_maps script Mem c n (Some Begun_hand) (Thread Begun)) once.shows;
-      stepped = has_stepped script limits w b view state kernel c n t low asks Mem1 B1 V1 w.history (record {
-        shows = begun.shows;
-        stands = subst (Stands script B1 V1)
-            (ap (λ (p : Option Point). w.history ++ entries_of b p) begun.silent ∙ append-nil w.history) turned1.stands;
-        viewed = record { carriers = λ d few. ap (λ (f : ℕ → tokens.Carrier). f d) carriers1 ∙ viewed.carriers d few };
-        count = (step_one c view S1).carriers;
-        unmade = ap (λ (x : tokens.World). x.unmade) taken1 ∙ unmade_left view c n S1;
-        found = found1;
-        made = begun_made script Mem b c Hand sh in_hand ready t refl last e;
-        asked = asked1;
-        thread = record {
-          number = thread.number;
-          inside = inside;
-          made = version1;
-          condition = awake1 ∙ sym (ap condition_of e);
-          locks = locks1 ∙ sym free_locks;
-        };
-        hand = λ h. upd_twice Mem.hand c (Some Begun_hand) (Some h);
-        answers =
-            λ d. answer_of (threads.step_of Begun) (word_same Mem Mem1.hand (word_of (threads.step_of Begun)) d)
-            (goods_same Mem Mem1.hand (threads.step_of Begun) d);
-      }) ready.asks ready.spelled Made once;
+      stepped = stepped;
+      ways = inr (record {
+        board = B1;
+        view = V1;
+        state = stands1.state;
+        begins = begins1;
+        whole = stands1.whole;
+        makes = stepped.made;
+      });
     }
       where
         once : ComesOnce script (programs_of script) n B1 (section_maps script Mem1 c n (Thread Begun)) Made
@@ -325,6 +381,31 @@ module _ (script : Script) (limits : IsScript script) (room : HasRoom script) (w
             (subst (Comes script (programs_of script) n 1 B1 (section_maps script Mem1 c n (Thread Begun)))
             (same_entry script Mem c n (Some Begun_hand) (Thread Begun))
             (begun_comes script Mem b c Hand sh in_hand ready t refl last e))
+
+        stepped : HasStepped script limits w b view state kernel c n t low asks B1 V1 w.history once.board Then
+        stepped =
+            has_stepped script limits w b view state kernel c n t low asks Mem1 B1 V1 w.history (record {
+              shows = begun.shows;
+              stands = stands1;
+              viewed = record { carriers = λ d few. ap (λ (f : ℕ → tokens.Carrier). f d) carriers1 ∙ viewed.carriers d few };
+              count = (step_one c view S1).carriers;
+              unmade = ap (λ (x : tokens.World). x.unmade) taken1 ∙ unmade_left view c n S1;
+              found = found1;
+              made = begun_made script Mem b c Hand sh in_hand ready t refl last e;
+              asked = asked1;
+              thread = record {
+                number = thread.number;
+                inside = inside;
+                made = version1;
+                condition = awake1 ∙ sym (ap condition_of e);
+                locks = locks1 ∙ sym free_locks;
+              };
+              hand = λ h. upd_twice Mem.hand c (Some Begun_hand) (Some h);
+              answers =
+                  λ d. answer_of (threads.step_of Begun) (word_same Mem Mem1.hand (steps.word_of (threads.step_of Begun)) d)
+                  (goods_same Mem Mem1.hand (threads.step_of Begun) d);
+              words = λ id q. absurd (begun_removes script t last e id q);
+            }) ready.asks ready.spelled Made once
 
   by_doing : (a : Activity) → t.activity ≡ a → IsDone
   by_doing (activity.Alone (location.Between last)) e = begins_on last e
@@ -356,7 +437,7 @@ module _ (script : Script) (limits : IsScript script) (room : HasRoom script) (w
   abbrev Fits : ℕ → CarrierSeen → Type 0
   Fits size k = IfSome k.help (λ p. p.context < script.table + size)
 
-  pub has_run : HasRun script b n After
+  pub has_run : HasRun script b view w.history c n t After
   has_run = let s = done.stepped in record {
     board = done.board;
     count = done.count;
@@ -377,6 +458,8 @@ module _ (script : Script) (limits : IsScript script) (room : HasRoom script) (w
         (subst (Fits (length w.carriers)) (sym next_is) s.help)) (λ d few ne. fits (carrier_at w d) (kernel.helps d few));
     whole = subst (λ (es : List Entry). WholeHolds script done.board s.world es s.stands.state) history_is s.stands.whole;
     serials = subst (λ (es : List Entry). SerialsHold done.board (length es)) history_is s.stands.serials;
+    ways = subst (λ (es : List Entry). HasMade script c n Begun b view w.history done.board s.world es
+        ⊎ HasBegunAndMade script c n Begun b view w.history done.board s.world es) history_is done.ways;
   }
     where
       fits : (k : CarrierSeen) → Fits (length w.carriers) k → Fits (length After.carriers) k

@@ -1,5 +1,5 @@
 -- A turn of a thread's context on a board of which all of the whole holds, made by the carrier that is asked for it.
-use Rattle.std.proofs.Common.{◌≡◌, ℕ, ◌<◌, sym, ap, ◌∙◌, subst, Option, List, ◌++◌, length, length-append}
+use Rattle.std.proofs.Common.{◌≡◌, ℕ, ◌<◌, refl, sym, ap, ◌∙◌, subst, Option, List, ◌++◌, length, length-append}
 use Rattle.k_ids.specs.declared.calls.Reply.{Reply}
 use Rattle.k_ids.specs.declared.histories.Entry.{Entry}
 use Rattle.k_locks.specs.declared.points.Point.{Point}
@@ -42,6 +42,7 @@ pub record Stands (script : Script) (b : Board) (v : World) (es : List Entry) : 
 pub record HasTurned (script : Script) (b : Board) (v : World) (es : List Entry) (c n : ℕ) (b' : Board) (found : Finding)
     (p : Option Point) : Type 0 where
   pub turn : Turn (ranged_programs script) b n b'
+  pub point : turn_point (ranged_programs script) b n b' turn ≡ p
   pub step : ThreadStep
   pub kind : IsFound found (is_again (ranged_programs script) b n b' turn) step
   pub grants : Grants v n step
@@ -65,6 +66,7 @@ module _ (script : Script) (limits : IsScript script) (b : Board) (v : World) (e
       whole_goes_on script limits b v es h.state h.whole c low b' (runs n b' found asked wait free other.turn) in
       subst (HasTurned script b v es c n b' found) other.point (record {
         turn = other.turn;
+        point = refl;
         step = goes.step;
         kind = goes.kind.0;
         grants = goes.kind.1;

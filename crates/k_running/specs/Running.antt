@@ -1,5 +1,5 @@
 -- What holds of the running kernel, at any moment between two moves.
-use Rattle.std.specs.Prelude.{◌≡◌, ℕ, length}
+use Rattle.std.specs.Prelude.{◌≡◌, length}
 use Rattle.k_model.specs.State.{KernelState}
 use Rattle.k_script.specs.Script.{Script}
 use Rattle.k_world.specs.Lawful.{IsLawfulLog}

@@ -1,5 +1,5 @@
 -- What the code of a carrier's step asks for.
-use Rattle.std.specs.Prelude.{ℕ, ◌≡◌, ◌<◌, ◌^◌, IfSome, Option, Some, length}
+use Rattle.std.specs.Prelude.{ℕ, ◌≡◌, ◌<◌, ◌^◌, IfSome, Some, length}
 use Rattle.k_ids.specs.declared.context_word.ContextWord.{ContextWord}
 use Rattle.k_ids.specs.declared.context_word.ContextWord.TheVariants as word
 use Rattle.k_ids.specs.declared.histories.Entry.{Entry}

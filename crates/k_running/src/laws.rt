@@ -44,12 +44,13 @@ use k_threads::{
 use k_within::{a_move_can_be_made, a_step_is_within};
 
 /// After a step of a thread's context, in the hand of any carrier, all of the kernel holds again, but for the soundness of carriers and
-/// contexts: the board has made the turn, or two where a call began, and the carriers the step that its location grants.
+/// contexts: the board has made the turn, or two where a call began, and the carriers the step that its location grants. What the
+/// carrier finds of the step is what the maps of the raw world tell.
 pub fn a_threads_step_keeps_the_kernel()
     ensures { (script : Script) (w : World) (b : Board) (view : tokens.World) (state : KernelState) (c n : ℕ) (t : ThreadSeen)
         → IsScript script → HasRoom script → IsKernel script w b view state → IsRunnable script c w
         → ask_of (carrier_at w c) ≡ Run (record { context = n; value = Thread t })
-        → HasRun script b n (moved script c w) }
+        → HasRun script b view w.history c n t (moved script c w) }
 {}
 
 /// All of the kernel holds of the world in which it begins to run a script, with any number of carriers up to eight.

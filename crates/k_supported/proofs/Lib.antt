@@ -1,0 +1,3 @@
+pub mod Ranks
+pub mod Owners
+pub mod Removals

@@ -1,3 +1,4 @@
 pub mod Ranks
 pub mod Owners
 pub mod Removals
+pub mod Waits

@@ -2,3 +2,4 @@ pub mod Ranks
 pub mod Owners
 pub mod Removals
 pub mod Waits
+pub mod Pushed

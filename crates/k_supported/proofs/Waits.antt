@@ -49,15 +49,14 @@ use Rattle.k_good.specs.Ranges.{FitsAt}
 use Rattle.k_sections.specs.Situations.{want_at}
 use Rattle.k_sections.proofs.Tables.{ThreadTables}
 use Rattle.k_sections.proofs.Wanted.{RemovesAt, removes_at}
-use Rattle.k_context.specs.Contexts.{ContextSeen, Thread}
+use Rattle.k_context.specs.Contexts.{Thread}
 use Rattle.k_board.specs.Steps.{Answers}
 use Rattle.k_places.specs.Answers.{answer_in, goods_found}
-use Rattle.k_places.specs.Contexts.{IsShown, ShowsContext, at_in}
+use Rattle.k_places.specs.Contexts.{at_in}
 use Rattle.k_places.specs.Memory.{Memory}
 use Rattle.k_places.specs.Shows.{IsLockOf, Shows, context_in}
 use Rattle.k_places.proofs.Words.{step_finds}
 use Rattle.k_turns.specs.Spelled.{IsSpelled, ask_in}
-use Rattle.k_turns.proofs.Comes.{made_test}
 use Rattle.k_tokens.specs.World.{OfThread, World}
 use Rattle.k_switching.specs.Claims.{IsAsked}
 use Rattle.k_switching.specs.Rules.{word_of}
@@ -69,6 +68,7 @@ use Rattle.k_work.specs.Near.{IsAlone, IsHeldAbove, IsWaiting}
 use Rattle.k_supported.specs.Supported.{IsRemovable}
 use Rattle.k_supported.proofs.Owners.{lock_held_up}
 use Rattle.k_supported.proofs.Removals.{removal_held_up}
+use Rattle.k_supported.proofs.Shown.{shown_as, stands_at}
 
 -- WHAT IS ASKED FOR
 
@@ -181,19 +181,11 @@ module _ (tables : ThreadTables) (script : Script) (g : Programs) (m : Memory) (
   abbrev Waits : Step → Answer → Type 0
   Waits s x = IsWaiting v c (finding_by size goal (lock_acquired s) (told_in x) r)
 
-  shown : IsShown (b.seen n).word n t (b.context n)
-  shown = subst (λ (o : Option ContextSeen). ShowsContext (b.seen n).word n o (b.context n)) found (sh.contexts n)
-
-  version : ((b.seen n).word.version == t.id.version) ≡ true
-  version =
-      made_test (b.seen n).word t ((b.seen n).word.version == t.id.version) refl
-      (λ q. made (ap (λ (z : Context). z.at) shown.context ∙ q))
-
   at : (b.context n).at ≡ at_in t.activity
-  at = ap (λ (z : Context). z.at) shown.context ∙ rw version refl
+  at = stands_at script m b sh n t found made
 
   own : (b.context n).own ≡ section_own t.own t.activity
-  own = ap (λ (z : Context). z.own) shown.context
+  own = ap (λ (z : Context). z.own) (shown_as script m b sh n t found).context
 
   wants : want_at (b.context n).own (b.context n).at ≡ want_of Asks
   wants = (λ d. want_at (own d) (at d)) ∙ activity_wants t.id t.own t.activity

@@ -9,4 +9,6 @@
 
 mod laws;
 
-pub use laws::{who_removes_a_context_is_held_up, who_wants_a_lock_is_held_up};
+pub use laws::{
+    who_removes_a_context_is_held_up, who_waits_is_held_up, who_wants_a_lock_is_held_up,
+};

@@ -61,7 +61,7 @@ step_turned g b v c _ (wakes i hand took inside at) = inr (i, turn.wakes at)
 step_turned g b v c _ (stays nobody still) = inl refl
 
 -- one that isn't a thread's makes no entry
-no_point : (g : Programs) (b : Board) (v : tokens.World) (c : ℕ) (b' : Board) (s : Step g b v c b') →
+pub no_point : (g : Programs) (b : Board) (v : tokens.World) (c : ℕ) (b' : Board) (s : Step g b v c b') →
     is_of_thread g b v c b' s ≡ false → step_point g b v c b' s ≡ None
 no_point g b v c _ (runs i b' found asked wait free t) e = absurd cc
 no_point g b v c _ (switches d s p r asked at going an) e = refl

@@ -10,7 +10,7 @@ mod Helped
 mod One
 mod Run
 mod Threads
-mod Kernel
+pub mod Kernel
 mod Found
 mod Entered
 mod Apart

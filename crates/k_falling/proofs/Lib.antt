@@ -1,0 +1,5 @@
+pub mod Falls
+pub mod Views
+pub mod Steps
+pub mod Supported
+pub mod Moves

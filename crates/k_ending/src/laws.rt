@@ -1,0 +1,22 @@
+// The laws of how a run ends. Each is a function that does nothing, whose contract is the law.
+ghost use Rattle.std.specs.Prelude.{length, true, ℕ, ◌<◌, ◌≡◌};
+ghost use Rattle.k_carrier.specs.Flags.{is_settled};
+ghost use Rattle.k_ending.specs.Ending.{IsFreshIn};
+ghost use Rattle.k_running.specs.Running.{KernelHolds};
+ghost use Rattle.k_script.specs.Script.{Script};
+ghost use Rattle.k_world.specs.Steps.{parked, sliced, started};
+ghost use Rattle.k_world.specs.Worlds.{World, carrier_at};
+
+/// A carrier that is settled has no switch, so none that is finished: its next one is fresh.
+pub fn who_is_settled_is_fresh()
+    ensures { (script : Script) (w : World) (c : ℕ) → KernelHolds script w → c < length w.carriers
+        → is_settled (carrier_at w c) ≡ true → IsFreshIn script w c }
+{}
+
+/// A start, the end of a slice and a park, of any carrier, change no switch.
+pub fn what_comes_from_outside_leaves_who_is_fresh()
+    ensures start { (script : Script) (w : World) (c number i : ℕ) → IsFreshIn script w i
+        → IsFreshIn script (started c number w) i }
+    ensures slice { (script : Script) (w : World) (c i : ℕ) → IsFreshIn script w i → IsFreshIn script (sliced c w) i }
+    ensures park { (script : Script) (w : World) (c i : ℕ) → IsFreshIn script w i → IsFreshIn script (parked c w) i }
+{}

@@ -1,2 +1,4 @@
+mod Last
 mod Outside
 mod Settled
+mod Steps

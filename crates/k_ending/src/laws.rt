@@ -1,10 +1,11 @@
 // The laws of how a run ends. Each is a function that does nothing, whose contract is the law.
 ghost use Rattle.std.specs.Prelude.{length, true, ℕ, ◌<◌, ◌≡◌};
 ghost use Rattle.k_carrier.specs.Flags.{is_settled};
+ghost use Rattle.k_carriers.specs.Kernel.{is_told_idle};
 ghost use Rattle.k_ending.specs.Ending.{IsFreshIn};
 ghost use Rattle.k_running.specs.Running.{KernelHolds};
 ghost use Rattle.k_script.specs.Script.{Script};
-ghost use Rattle.k_world.specs.Steps.{parked, sliced, started};
+ghost use Rattle.k_world.specs.Steps.{moved, parked, sliced, started, told_of};
 ghost use Rattle.k_world.specs.Worlds.{World, carrier_at};
 
 /// A carrier that is settled has no switch, so none that is finished: its next one is fresh.
@@ -19,4 +20,11 @@ pub fn what_comes_from_outside_leaves_who_is_fresh()
         → IsFreshIn script (started c number w) i }
     ensures slice { (script : Script) (w : World) (c i : ℕ) → IsFreshIn script w i → IsFreshIn script (sliced c w) i }
     ensures park { (script : Script) (w : World) (c i : ℕ) → IsFreshIn script w i → IsFreshIn script (parked c w) i }
+{}
+
+/// The step with which a carrier comes to be settled gives back a switch that has taken no thread: where the carrier is fresh, it is
+/// told Idle.
+pub fn who_ends_last_is_told_idle()
+    ensures { (script : Script) (w : World) (c : ℕ) → KernelHolds script w → c < length w.carriers → IsFreshIn script w c
+        → is_settled (carrier_at (moved script c w) c) ≡ true → is_told_idle (told_of script c w) ≡ true }
 {}

@@ -10,5 +10,6 @@
 mod laws;
 
 pub use laws::{
-    what_comes_from_outside_leaves_who_is_fresh, who_is_settled_is_fresh,
+    what_comes_from_outside_leaves_who_is_fresh, who_ends_last_is_told_idle,
+    who_is_settled_is_fresh,
 };

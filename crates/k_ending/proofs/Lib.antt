@@ -1,4 +1,6 @@
+mod Finished
 mod Last
 mod Outside
 mod Settled
 mod Steps
+mod Told

@@ -84,7 +84,7 @@ over_shown view size c (Carrier x) s h e =
     let same : x.carrier ≡ c = omega (arith, own) in
     subst (λ n. IsOver (view.own n) s) same (over_in x.switch (view.own x.carrier) s h.1 e)
 
-open_switch : (s : Stage) → has_switch s ≡ false → is_open s ≡ false
+pub open_switch : (s : Stage) → has_switch s ≡ false → is_open s ≡ false
 open_switch tokens.NoSwitch e = refl
 open_switch tokens.AcquireReady e = absurd cc
 open_switch tokens.LoadGoal e = absurd cc

@@ -1,12 +1,15 @@
 // The laws of how a run ends. Each is a function that does nothing, whose contract is the law.
-ghost use Rattle.std.specs.Prelude.{length, true, ℕ, ◌<◌, ◌≡◌};
+ghost use Rattle.std.specs.Prelude.{false, length, true, ℕ, ◌<◌, ◌≡◌};
 ghost use Rattle.k_carrier.specs.Flags.{is_settled};
+ghost use Rattle.k_carrier.specs.Starts.{is_due};
 ghost use Rattle.k_carriers.specs.Kernel.{is_told_idle};
-ghost use Rattle.k_ending.specs.Ending.{IsFreshIn};
+ghost use Rattle.k_ending.specs.Ending.{IsAtEnd, IsFreshIn};
 ghost use Rattle.k_running.specs.Running.{KernelHolds};
 ghost use Rattle.k_script.specs.Script.{Script};
 ghost use Rattle.k_world.specs.Steps.{moved, parked, sliced, started, told_of};
 ghost use Rattle.k_world.specs.Worlds.{World, carrier_at};
+
+use k_whole::idle_means_finished;
 
 /// A carrier that is settled has no switch, so none that is finished: its next one is fresh.
 pub fn who_is_settled_is_fresh()
@@ -28,3 +31,14 @@ pub fn who_ends_last_is_told_idle()
     ensures { (script : Script) (w : World) (c : ℕ) → KernelHolds script w → c < length w.carriers → IsFreshIn script w c
         → is_settled (carrier_at (moved script c w) c) ≡ true → is_told_idle (told_of script c w) ≡ true }
 {}
+
+/// Where a step is told Idle, all carriers are settled after it, and no start is due, no thread can go on, and the history is one of
+/// the script's, whole.
+pub fn idle_is_the_end()
+    ensures { (script : Script) (w : World) (c : ℕ) → KernelHolds script w → c < length w.carriers
+        → is_told_idle (told_of script c w) ≡ true
+        → ((d : ℕ) → d < length w.carriers → is_settled (carrier_at (moved script c w) d) ≡ true)
+        → ((n : ℕ) → is_due w.unstarted n ≡ false) → IsAtEnd script (moved script c w) }
+{
+    idle_means_finished();
+}

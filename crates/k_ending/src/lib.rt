@@ -10,6 +10,7 @@
 mod laws;
 
 pub use laws::{
+    idle_is_the_end,
     what_comes_from_outside_leaves_who_is_fresh, who_ends_last_is_told_idle,
     who_is_settled_is_fresh,
 };

@@ -31,32 +31,12 @@ use Rattle.k_tokens.specs.World as tokens
 use Rattle.k_moves.specs.Views.{goal_in}
 use Rattle.k_running.specs.Running.{KernelHolds}
 use Rattle.k_ending.specs.Ending.{IsAtEnd}
+use Rattle.k_ending.proofs.Counts.{count_none, none_passes}
 use Rattle.k_ending.proofs.Last.{IsOwnOver, own_over}
-use Rattle.k_ending.proofs.Settled.{IsOver, IsSettled, facts, no_switch, open_switch, over, settled, viewed}
+use Rattle.k_ending.proofs.Settled.{IsOver, IsSettled, facts, no_switch, open_switch, over, settled}
+use Rattle.k_ending.proofs.Settled.{settled_uncounted, viewed}
 use Rattle.k_ending.proofs.Steps.{After, after_is}
 use Rattle.k_ending.proofs.Told.{IsEnding}
-
--- NOBODY PASSES a test
-
-count_none : (f : ℕ → Bool) (n : ℕ) → ((d : ℕ) → d < n → f d ≡ false) → count f n ≡ 0
-count_none f zero h = refl
-count_none f (suc n) h =
-    let a = count_none f n (λ d l. h d (omega (arith, l))) in
-    let b = ap one_if (h n (omega arith)) in
-    omega (arith, a, b)
-
-none_passes : (test : ℕ → Bool) (n : ℕ) → lowest test n ≡ None → (t : ℕ) → t < n → test t ≡ false
-none_passes test zero e t l = absurd (omega (arith, l))
-none_passes test (suc n) e t l = by (lowest test n) (test n) refl refl e (λ z m. none_passes test n z t m)
-  where
-    by : (o : Option ℕ) (b : Bool) → lowest test n ≡ o → test n ≡ b → option_or o (if b then Some n else None) ≡ None →
-        (lowest test n ≡ None → t < n → test t ≡ false) → test t ≡ false
-    by (Some m) b p q z rest = absurd cc
-    by None true p q z rest = absurd cc
-    by None false p q z rest = elim (cases_eq t n) [
-      | inl same ↦ ap test same ∙ q
-      | inr ne ↦ rest p (omega (arith, l, ne))
-    ]
 
 none_lowest : (o : Option ℕ) → is_some o ≡ false → o ≡ None
 none_lowest None e = refl
@@ -118,10 +98,7 @@ module _ (script : Script) (w : World) (h : KernelHolds script w) (c : ℕ) (low
     | inl e ↦ ap (counted_in h.view.own h.view.carrier) e ∙ own_uncounted
     | inr ne ↦
         let inside : d < length w.carriers = subst (λ n. d < n) h.aligned.count l in
-        let s = other d inside ne in
-        ap (λ (t : Bool). if t then (h.view.own d).counted else (h.view.carrier d).counted)
-        (no_switch script w h d inside s.calm)
-        ∙ ap (λ (k : tokens.Carrier). k.counted) (viewed script w h d inside) ∙ s.uncounted
+        settled_uncounted script w h d inside (other d inside ne)
   ]
 
   pub nobody_runs : h.view.running ≡ 0

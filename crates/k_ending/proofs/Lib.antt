@@ -1,6 +1,9 @@
+mod Counts
 mod Finished
 mod Last
+mod Lone
 mod Outside
+mod Over
 mod Settled
 mod Steps
 mod Told

@@ -1,7 +1,7 @@
 -- A carrier that is settled, and a switch that is over.
 use Rattle.std.proofs.Common.{◌≡◌, ℕ, ◌+◌, ◌<◌, Bool, true, false, not, refl, sym, ap, ◌∙◌, subst, Option, Some, None, length}
 use Rattle.std.proofs.Common.{arith}
-use Rattle.std.specs.Prelude.{◌&&◌, is_none, is_some}
+use Rattle.std.specs.Prelude.{◌&&◌, if◌then◌else◌, is_none, is_some}
 use Rattle.std.proofs.lemmas.Bool.{false≢true}
 use Rattle.k_script.specs.Script.{Script}
 use Rattle.k_switch.specs.declared.carrier_context.CarrierContext.{CarrierContext}
@@ -17,7 +17,7 @@ use Rattle.k_carrier.specs.Flags.{is_settled}
 use Rattle.k_carrier.specs.Seen.{CarrierSeen, HandSeen}
 use Rattle.k_carrier.specs.Starts.{has_start}
 use Rattle.k_world.specs.Worlds.{World, carrier_at}
-use Rattle.k_tokens.specs.Good.{CarrierFacts}
+use Rattle.k_tokens.specs.Good.{CarrierFacts, counted_in}
 use Rattle.k_tokens.specs.World.{OwnContext, Stage, has_switch, is_open}
 use Rattle.k_tokens.specs.World as tokens
 use Rattle.k_moves.specs.Views.{ShowsAt, ShowsContext, ShowsOwn, carrier_view, goal_in, stage_of}
@@ -118,6 +118,12 @@ module _ (script : Script) (w : World) (h : KernelHolds script w) where
       by false e = e
       by true e =
           absurd (false≢true (sym calm ∙ ap (λ (k : tokens.Carrier). k.switching) (sym (viewed c low)) ∙ (facts c).switch_own e))
+
+  pub settled_uncounted : (c : ℕ) → c < length w.carriers → IsSettled (carrier_at w c) →
+      counted_in h.view.own h.view.carrier c ≡ false
+  settled_uncounted c low s =
+      ap (λ (t : Bool). if t then (h.view.own c).counted else (h.view.carrier c).counted) (no_switch c low s.calm)
+      ∙ ap (λ (k : tokens.Carrier). k.counted) (viewed c low) ∙ s.uncounted
 
   pub settled_fresh : (c : ℕ) → c < length w.carriers → is_settled (carrier_at w c) ≡ true → IsFreshIn script w c
   settled_fresh c low e v s found is none =

@@ -10,7 +10,7 @@
 mod laws;
 
 pub use laws::{
-    idle_is_the_end,
+    a_lone_step_leaves_it_fresh, idle_is_the_end,
     what_comes_from_outside_leaves_who_is_fresh, who_ends_last_is_told_idle,
     who_is_settled_is_fresh,
 };

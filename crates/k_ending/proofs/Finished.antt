@@ -1,18 +1,17 @@
 -- Where a step is told Idle, all carriers are settled afterwards, and no start is due, the run of the script is over.
-use Rattle.std.proofs.Common.{◌≡◌, ◌≢◌, ℕ, zero, suc, ◌<◌, ◌≤◌, Bool, true, false, refl, sym, ap, ◌∙◌, subst, Option}
+use Rattle.std.proofs.Common.{◌≡◌, ◌≢◌, ℕ, ◌<◌, ◌≤◌, Bool, true, false, refl, sym, ap, ◌∙◌, subst, Option}
 use Rattle.std.proofs.Common.{Some, None, List, length, arith, inl, inr}
 use Rattle.std.specs.Prelude.{◌&&◌, if◌then◌else◌, is_some}
-use Rattle.std.specs.Option.{option_or}
 use Rattle.std.proofs.lemmas.Bool.{cases_eq, cases_lt}
 use Rattle.std.proofs.lemmas.List.{get_or_past}
 use Rattle.k_ids.specs.declared.histories.Entry.{Entry}
 use Rattle.k_model.specs.History.{IsFinished}
-use Rattle.k_model.specs.Maps.{count, lowest}
+use Rattle.k_model.specs.Maps.{lowest}
 use Rattle.k_script.specs.Plays.{IsHistory}
 use Rattle.k_script.specs.Script.{Script}
 use Rattle.k_switch.specs.declared.goal.Goal.{Goal}
 use Rattle.k_switch.specs.declared.goal.Switched.{Switched}
-use Rattle.k_carrier.specs.Asked.{CarrierAsk, PutDown, ask_of, asked_by, move_by}
+use Rattle.k_carrier.specs.Asked.{CarrierAsk, ask_of, asked_by, move_by}
 use Rattle.k_carrier.specs.Flags.{is_settled}
 use Rattle.k_carrier.specs.Resumed.{point_of, switched_to}
 use Rattle.k_carrier.specs.Rules.{own_switched}
@@ -25,7 +24,6 @@ use Rattle.k_world.specs.Worlds.{World, carrier_at}
 use Rattle.k_joint.proofs.Carried.{put_down_hand}
 use Rattle.k_tokens.specs.Claims.{NothingToCome}
 use Rattle.k_tokens.specs.Good.{counted_in}
-use Rattle.k_tokens.specs.Maps.{one_if}
 use Rattle.k_tokens.specs.World.{OwnContext, Stage, has_switch, is_finished, is_idle, is_open, starting}
 use Rattle.k_tokens.specs.World as tokens
 use Rattle.k_moves.specs.Views.{goal_in}

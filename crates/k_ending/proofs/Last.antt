@@ -34,7 +34,8 @@ use Rattle.k_handling.proofs.Words.{hand_viewed}
 use Rattle.k_running.specs.Running.{KernelHolds}
 use Rattle.k_ending.specs.Ending.{IsFreshIn}
 use Rattle.k_ending.proofs.Settled.{facts, kernel_of, no_switch, settled, viewed}
-use Rattle.k_ending.proofs.Steps.{After, IsAs, Told, after_is, begun_switching, has_goal, look_as, readied_same, take_holds, told_is}
+use Rattle.k_ending.proofs.Steps.{After, IsAs, Told, after_is, begun_switching, has_goal, look_as}
+use Rattle.k_ending.proofs.Steps.{readied_same, take_holds, told_is}
 
 not_empty : {A : Type 0} (x : A) → Some x ≡ None → ⊥
 not_empty x e = absurd cc

@@ -27,7 +27,8 @@ module _ (w v : World) (words : v.words ≡ w.words) (slots : v.slots ≡ w.slot
 abbrev hand_of : CarrierSeen → Option HandSeen
 hand_of k = k.hand
 
-pub started_fresh : (script : Script) (w : World) (c number i : ℕ) → IsFreshIn script w i → IsFreshIn script (started c number w) i
+pub started_fresh : (script : Script) (w : World) (c number i : ℕ) → IsFreshIn script w i →
+    IsFreshIn script (started c number w) i
 unfolding started
 started_fresh script w c number i =
     fresh_kept w (started c number w) refl refl (λ d. start_keeps hand_of w c number d refl) script i

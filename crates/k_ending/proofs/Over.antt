@@ -1,5 +1,6 @@
 -- A switch that is over on a board was over before the turn, or has come to its end by its own turn.
-use Rattle.std.proofs.Common.{◌≡◌, ◌≢◌, ℕ, ◌==◌, Bool, true, false, refl, sym, ap, ◌∙◌, subst, Option, Some, None, [], ◌⊎◌, inl, inr}
+use Rattle.std.proofs.Common.{◌≡◌, ◌≢◌, ℕ, ◌==◌, Bool, true, false, refl, sym, ap, ◌∙◌, subst, Option}
+use Rattle.std.proofs.Common.{Some, None, [], ◌⊎◌, inl, inr}
 use Rattle.std.specs.Prelude.{if◌then◌else◌}
 use Rattle.std.proofs.lemmas.Bool.{false≢true}
 use Rattle.k_ids.specs.declared.calls.Phase.{Phase}
@@ -47,8 +48,8 @@ use Rattle.k_switch.specs.Switches.{SwitchAt, at_of, filled, leads, switched_at,
 use Rattle.k_switch.specs.Switches as switch
 use Rattle.k_context.specs.Contexts.{Carrier, ContextSeen, Thread, switched_of}
 use Rattle.k_world.specs.Worlds.{World}
-use Rattle.k_board.specs.Boards.{Alone, At, Board, Coming, Context, InCreate, InDestroy, InReceive, InSend, InSwitch, Nowhere, Resting}
-use Rattle.k_board.specs.Boards.{hand_of}
+use Rattle.k_board.specs.Boards.{Alone, At, Board, Coming, Context, InCreate, InDestroy, InReceive, InSend}
+use Rattle.k_board.specs.Boards.{InSwitch, Nowhere, Resting, hand_of}
 use Rattle.k_board.specs.Steps.{after, begun_at, create_at, create_contexts, destroy_at, destroy_contexts, receive_at, send_at}
 use Rattle.k_board.specs.Turns.{Turn, is_going}
 use Rattle.k_board.specs.Turns as turn
@@ -193,12 +194,12 @@ module _ (g : Programs) (b : Board) (i j : ℕ) (s : Switched) where
   turned _ (turn.switches c p r at going an) e = elim (changed b.context i _ j s e) [
     | inl z ↦ inl z
     | inr z ↦ inr (record {
-        same = z.0;
-        call = c;
-        place = p;
-        at = at;
-        ends = ends c (hand_of b []) p r s going z.1;
-      })
+      same = z.0;
+      call = c;
+      place = p;
+      at = at;
+      ends = ends c (hand_of b []) p r s going z.1;
+    })
   ]
   turned _ (turn.begins_switch c at) e = inl (quietly b.context i _ j s refl e)
   turned _ (turn.ends_switch c o at) e = inl (quietly b.context i _ j s refl e)

@@ -4,7 +4,6 @@ use Rattle.std.proofs.Common.{arith}
 use Rattle.std.specs.Prelude.{◌&&◌, if◌then◌else◌, is_none, is_some}
 use Rattle.std.proofs.lemmas.Bool.{false≢true}
 use Rattle.k_script.specs.Script.{Script}
-use Rattle.k_switch.specs.declared.carrier_context.CarrierContext.{CarrierContext}
 use Rattle.k_switch.specs.declared.goal.Goal.{Goal}
 use Rattle.k_switch.specs.declared.goal.Switched.{Switched}
 use Rattle.k_switch.specs.declared.switch.Switch.{Switch}

@@ -22,13 +22,13 @@ use Rattle.k_context.specs.Contexts.{owner_of, ran_of}
 use Rattle.k_carrier.specs.declared.moves.Stepped.{Stepped}
 use Rattle.k_carrier.specs.declared.moves.Stepped.TheVariants as stepped
 use Rattle.k_carrier.specs.Answers as answers
-use Rattle.k_carrier.specs.Asked.{CarrierAsk, LookAt, PutDown, Run, Take, ask_of, asked_by, move_by}
+use Rattle.k_carrier.specs.Asked.{CarrierAsk, LookAt, PutDown, Run, Take, ask_of, asked_by}
 use Rattle.k_carrier.specs.Resumed.{lock_awaited, told_in}
-use Rattle.k_carrier.specs.Rules.{context_at, is_goals, own_switched, target_of}
+use Rattle.k_carrier.specs.Rules.{is_goals, own_switched}
 use Rattle.k_carrier.specs.Seen.{CarrierSeen, HandSeen}
 use Rattle.k_carrier.specs.Told.{blocked, stepped_of, told_by, told_section, told_switched, told_waiting, told_word}
 use Rattle.k_carriers.specs.Kernel.{is_told_idle}
-use Rattle.k_world.specs.Moves.{answer_by, took}
+use Rattle.k_world.specs.Moves.{took}
 use Rattle.k_world.specs.Steps.{told_of}
 use Rattle.k_world.specs.Worlds.{Away, Guarded, Resting, Slot, World, carrier_at, slot_at, word_at}
 use Rattle.k_ending.proofs.Steps as steps
@@ -52,7 +52,8 @@ ran_busy g o ran.Again = refl
 ran_busy g o (ran.Pushed priority) = refl
 ran_busy g o ran.Dead = refl
 
-waiting_busy : (l : Option Lock) (t : Option Told) (s : Stepped) → is_told_idle s ≡ false → is_told_idle (told_waiting l t s) ≡ false
+waiting_busy : (l : Option Lock) (t : Option Told) (s : Stepped) → is_told_idle s ≡ false →
+    is_told_idle (told_waiting l t s) ≡ false
 waiting_busy l (Some (told.Owned n)) s e = blocked_busy l n
 waiting_busy l (Some (told.Holds n)) s e = refl
 waiting_busy l (Some (told.Taken n d)) s e = refl

@@ -16,7 +16,7 @@ use k_running::a_threads_step_keeps_the_kernel;
 use k_told::a_step_can_be_made;
 use k_whole::idle_means_finished;
 
-/// A carrier that is settled has no switch, so none that is finished: its next one is fresh.
+/// A carrier that is settled has no switch, so none that is finished: it is fresh.
 pub fn who_is_settled_is_fresh()
     ensures { (script : Script) (w : World) (c : ℕ) → KernelHolds script w → c < length w.carriers
         → is_settled (carrier_at w c) ≡ true → IsFreshIn script w c }
@@ -30,8 +30,8 @@ pub fn what_comes_from_outside_leaves_who_is_fresh()
     ensures park { (script : Script) (w : World) (c i : ℕ) → IsFreshIn script w i → IsFreshIn script (parked c w) i }
 {}
 
-/// A carrier's own step leaves it fresh, where all others are settled: its own switch alone comes to its end by the step, and where
-/// that takes no thread, no carrier is counted any more.
+/// A carrier's own step leaves it fresh, where all others are settled: where its switch comes to its end by the step and takes no
+/// thread, no carrier is counted any more.
 pub fn a_lone_step_leaves_it_fresh()
     ensures { (script : Script) (w : World) (c : ℕ) → IsScript script → HasRoom script → KernelHolds script w
         → c < length w.carriers → ((d : ℕ) → d < length w.carriers → d ≢ c → is_settled (carrier_at w d) ≡ true)
@@ -42,15 +42,15 @@ pub fn a_lone_step_leaves_it_fresh()
     every_other_move_keeps_the_kernel();
 }
 
-/// The step with which a carrier comes to be settled gives back a switch that has taken no thread: where the carrier is fresh, it is
-/// told Idle.
+/// The step with which a carrier comes to be settled gives back a switch that has taken no thread: where the carrier is fresh, it
+/// is told Idle.
 pub fn who_ends_last_is_told_idle()
     ensures { (script : Script) (w : World) (c : ℕ) → KernelHolds script w → c < length w.carriers → IsFreshIn script w c
         → is_settled (carrier_at (moved script c w) c) ≡ true → is_told_idle (told_of script c w) ≡ true }
 {}
 
-/// Where a step is told Idle, all carriers are settled after it, and no start is due, no thread can go on, and the history is one of
-/// the script's, whole.
+/// Where a step is told Idle, all carriers are settled after it, and no start is due, no thread can go on, and the history is one
+/// of the script's, whole.
 pub fn idle_is_the_end()
     ensures { (script : Script) (w : World) (c : ℕ) → KernelHolds script w → c < length w.carriers
         → is_told_idle (told_of script c w) ≡ true

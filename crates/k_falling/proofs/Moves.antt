@@ -66,8 +66,11 @@ module _ (script : Script) (lowers : LowersWork script) (supports : Supports scr
       by : (p : Option Point) → turn_point (ranged_programs script) b n b' made.turned.turn ≡ p →
           Quiet ⊎ (length entries' ≡ length entries + 1)
       by None e =
-          inl (let g = grown None e in omega (arith, g), turn_falls script lowers b v entries k c whole alone low n b' v' made.turned
-          (made_supported script supports c n t sound b v entries b' v' entries' made k whole alone) e unsettled)
+          inl (
+            let g = grown None e in omega (arith, g),
+            turn_falls script lowers b v entries k c whole alone low n b' v' made.turned
+                (made_supported script supports c n t sound b v entries b' v' entries' made k whole alone) e unsettled,
+          )
       by (Some p) e = inr (grown (Some p) e)
 
 module _ (script : Script) (limits : IsScript script) (lowers : LowersWork script) (supports : Supports script)

@@ -83,10 +83,12 @@ module _ (script : Script) (lowers : LowersWork script) (b : Board) (v : World) 
   pub begun_falls : (n : ℕ) (b' : Board) (v' : World) → HasBegun script c n b v b' v' → (room : ℕ) →
       Falls (parts_at b v c room) (parts_at b' v' c room)
   begun_falls n b' v' h room =
-      turn_falls n b' v' h.turned
-      (record {
-        work = λ count e. (let z : Alone (location.Work count) ≡ Alone (location.Between h.last) = sym e ∙ h.between in absurd cc);
-        above = λ e. (let z : true ≡ false = sym e ∙ h.below in absurd cc);
-      }, λ e. (let z : true ≡ false = sym e ∙ h.goes in absurd cc)) h.silent
+      turn_falls n b' v' h.turned (
+        record {
+          work = λ count e. (let z : Alone (location.Work count) ≡ Alone (location.Between h.last) = sym e ∙ h.between in absurd cc);
+          above = λ e. (let z : true ≡ false = sym e ∙ h.below in absurd cc);
+        },
+        λ e. (let z : true ≡ false = sym e ∙ h.goes in absurd cc),
+      ) h.silent
       (ap (λ (f : ℕ → _). is_settled (f c)) h.carriers
       ∙ hand_unsettled (v.carrier c) (OfThread n) h.turned.asked.hand) room

@@ -66,7 +66,7 @@ pub fn who_waits_is_held_up()
         → IsAsked w c (OfThread n) → context_in m.context m.slot m.hand n ≡ Some (Thread t)
         → ((b.context n).at ≡ Coming → ⊥) → size ≡ b.size → IsSpelled script.table (ask_in t.id t.own t.activity)
         → ((id : ThreadId) → ask_in t.id t.own t.activity ≡ asks.Remove id
-            → word_of w (OfThread id.number) ≡ context_word_of (m.context id.number))
+        → word_of w (OfThread id.number) ≡ context_word_of (m.context id.number))
         → is_again (answer_in m (step_of t)) ≡ true
         → IsWaiting w c (finding_by size goal (lock_acquired (step_of t)) (told_in (answer_in m (step_of t))) r) }
     ensures made { (script : Script) (m : Memory) (b : Board) (n size : ℕ) (t : ThreadSeen) (goal : Option Goal)

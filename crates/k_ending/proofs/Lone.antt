@@ -127,7 +127,7 @@ module _ (script : Script) (w : World) (h : KernelHolds script w) (c : ℕ) (low
   kept : (b : Board) → ShowsBoard script (moved script c w) b → Keeps b → IsFreshIn script (moved script c w) c
   kept b sh k v s found is none = k s (found_outcome script (moved script c w) b sh J v found ∙ is) none
 
-  handled : IsHandled script h.board (moved script c w) w.history h.state → IsFreshIn script (moved script c w) c
+  handled : IsHandled script h.board h.view c (moved script c w) w.history h.state → IsFreshIn script (moved script c w) c
   handled r = kept r.board r.matched.shows (by r.turned)
     where
       by : IsTurned (ranged_programs script) h.board r.board → Keeps r.board
@@ -139,7 +139,7 @@ module _ (script : Script) (w : World) (h : KernelHolds script w) (c : ℕ) (low
 
   -- a thread's context isn't the carrier's own
   thread_ran : (n : ℕ) (t : ThreadSeen) → ask_of K ≡ Run (record { context = n; value = Thread t }) →
-      HasRun script h.board n (moved script c w) → IsFreshIn script (moved script c w) c
+      HasRun script h.board h.view w.history c n t (moved script c w) → IsFreshIn script (moved script c w) c
   thread_ran n t asks r =
       kept r.board r.matched.shows
       (λ s over none. before s (ran (programs_of script) n J s apart r.count h.board r.board r.turns over) none)
@@ -155,13 +155,13 @@ module _ (script : Script) (w : World) (h : KernelHolds script w) (c : ℕ) (low
           omega (arith, inside, e)
 
   abbrev pub Handles : CarrierAsk → Type 0
-  Handles a = ask_of K ≡ a → IsHandled script h.board (moved script c w) w.history h.state
+  Handles a = ask_of K ≡ a → IsHandled script h.board h.view c (moved script c w) w.history h.state
 
   pub stays_fresh : ((n : ℕ) → Handles (LookAt n)) → ((n bits : ℕ) → Handles (Take n bits)) →
       ((x : HandSeen) → Handles (PutDown x)) →
       ((n : ℕ) (z : CarrierContext) → Handles (Run (record { context = n; value = Carrier z }))) →
       ((n : ℕ) (t : ThreadSeen) → ask_of K ≡ Run (record { context = n; value = Thread t }) →
-      HasRun script h.board n (moved script c w)) → IsFreshIn script (moved script c w) c
+      HasRun script h.board h.view w.history c n t (moved script c w)) → IsFreshIn script (moved script c w) c
   stays_fresh looks takes gives switches threads = by (ask_of K) refl
     where
       runs : (n : ℕ) (v : ContextSeen) → ask_of K ≡ Run (record { context = n; value = v }) →

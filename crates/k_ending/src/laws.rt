@@ -11,10 +11,12 @@ ghost use Rattle.k_script.specs.Script.{Script};
 ghost use Rattle.k_world.specs.Steps.{moved, parked, sliced, started, told_of};
 ghost use Rattle.k_world.specs.Worlds.{World, carrier_at};
 
+use k_conditions::a_carrier_can_ask;
 use k_handling::every_other_move_keeps_the_kernel;
 use k_running::a_threads_step_keeps_the_kernel;
-use k_told::a_step_can_be_made;
+use k_sound::a_context_stays_sound;
 use k_whole::idle_means_finished;
+use k_within::a_move_can_be_made;
 
 /// A carrier that is settled has no switch, so none that is finished: it is fresh.
 pub fn who_is_settled_is_fresh()
@@ -37,7 +39,9 @@ pub fn a_lone_step_leaves_it_fresh()
         → c < length w.carriers → ((d : ℕ) → d < length w.carriers → d ≢ c → is_settled (carrier_at w d) ≡ true)
         → IsFreshIn script w c → IsFreshIn script (moved script c w) c }
 {
-    a_step_can_be_made();
+    a_carrier_can_ask();
+    a_context_stays_sound();
+    a_move_can_be_made();
     a_threads_step_keeps_the_kernel();
     every_other_move_keeps_the_kernel();
 }

@@ -10,6 +10,7 @@ ghost use Rattle.k_schedule.specs.Parts.{Falls};
 ghost use Rattle.k_running.specs.Running.{KernelHolds};
 ghost use Rattle.k_lowered.specs.Lowered.{parts_in};
 
+use k_conditions::a_carrier_can_ask;
 use k_handling::every_other_move_keeps_the_kernel;
 use k_lowered::the_work_is_that_of_the_board;
 use k_owed::programs_count_their_work;
@@ -18,7 +19,7 @@ use k_running::{
 };
 use k_sound::a_context_stays_sound;
 use k_supported::who_waits_is_held_up;
-use k_told::a_step_can_be_made;
+use k_within::a_move_can_be_made;
 use k_work::each_step_of_a_lone_carrier_lowers_its_work;
 
 /// While no other carrier has a context in hand, each step of a carrier that leaves it unsettled lowers the work that the world has for
@@ -29,8 +30,9 @@ pub fn each_step_lowers_the_work()
         → is_settled (carrier_at (moved script c w) c) ≡ false
         → Falls (parts_in script w c) (parts_in script (moved script c w) c) }
 {
+    a_carrier_can_ask();
     a_context_stays_sound();
-    a_step_can_be_made();
+    a_move_can_be_made();
     a_threads_step_keeps_the_kernel();
     each_step_of_a_lone_carrier_lowers_its_work();
     every_other_move_keeps_the_kernel();

@@ -1,3 +1,5 @@
+use Rattle.k_carrier.specs.Seen.{HandSeen}
+use Rattle.k_running.proofs.Kernel.{in_hand_sound}
 use Rattle.k_ending.proofs.Lone.{stays_fresh}
 use Rattle.k_ending.proofs.Settled.{kernel_of}
 use Rattle.k_ending.proofs.laws.a_lone_step_leaves_it_fresh.Goals as goal
@@ -6,7 +8,9 @@ pub returns : goal.returns
 returns c = λ script w n limits room h low others fresh.
     let k = kernel_of script w h in
     let other = c.every_other_move_keeps_the_kernel.ensures in
-    let run = c.a_step_can_be_made.ensures script w n limits h low in
+    let run = c.a_move_can_be_made.ensures script w h.board h.view h.state n limits k h.spelled low
+    (c.a_carrier_can_ask.ensures script w h.board h.view h.state n limits k h.finished low)
+    (λ (x : HandSeen) e. c.a_context_stays_sound.ensures.begun script x.value limits (in_hand_sound script limits w h n low x e)) in
     stays_fresh script w h n low others fresh
     (λ i e. other.look script w h.board h.view h.state n i limits k low e)
     (λ i bits e. other.take script w h.board h.view h.state n i bits limits k low e)

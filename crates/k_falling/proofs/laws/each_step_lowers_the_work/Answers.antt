@@ -8,7 +8,9 @@ use Rattle.k_falling.proofs.laws.each_step_lowers_the_work.Goals as goal
 pub returns : goal.returns
 returns c = λ script w n limits room h low others unsettled.
     let k = kernel_of script w h in
-    let run = c.a_step_can_be_made.ensures script w n limits h low in
+    let run = c.a_move_can_be_made.ensures script w h.board h.view h.state n limits k h.spelled low
+    (c.a_carrier_can_ask.ensures script w h.board h.view h.state n limits k h.finished low)
+    (λ (x : HandSeen) e. c.a_context_stays_sound.ensures.begun script x.value limits (in_hand_sound script limits w h n low x e)) in
     let other = c.every_other_move_keeps_the_kernel.ensures in
     let after = c.every_step_keeps_the_kernel.ensures script w n limits room low h in
     let held = c.who_waits_is_held_up.ensures in

@@ -76,7 +76,8 @@ module _ (script : Script) (m : Memory) (b : Board) (sh : Shows script m b) (n :
 
 -- A CALL THAT HAS BEGUN
 
-alone_removes : (me : ThreadId) (own : StateWord) (p : ThreadLocation) (id : ThreadId) → alone.ask_of me own p ≡ asks.Remove id → ⊥
+alone_removes : (me : ThreadId) (own : StateWord) (p : ThreadLocation) (id : ThreadId) →
+    alone.ask_of me own p ≡ asks.Remove id → ⊥
 alone_removes me own p id e = grind (arith, common_steps, e)
 
 first_removes : (table : ℕ) (me : ThreadId) (own : StateWord) (f : Phase) (id : ThreadId) →
@@ -116,8 +117,8 @@ next_removes : (table : ℕ) (t : ThreadSeen) (x : Next) (id : ThreadId) → Ask
 next_removes table t (next.Phase f) id e = first_removes table t.id t.own f id e
 next_removes table t (next.Work count) id e = cc
 
-pub begun_removes : (script : Script) (t : ThreadSeen) (last : Option Reply) → t.activity ≡ activity.Alone (location.Between last) →
-    (id : ThreadId) → AsksToRemove (begun script t) id → ⊥
+pub begun_removes : (script : Script) (t : ThreadSeen) (last : Option Reply) →
+    t.activity ≡ activity.Alone (location.Between last) → (id : ThreadId) → AsksToRemove (begun script t) id → ⊥
 begun_removes script t last at id e =
     next_removes script.table (record t { position = went_on t.position last }) (next_of script.version t.position last) id
     (subst (λ (u : ThreadSeen). AsksToRemove u id) (ap (begun_at script t) at) e)

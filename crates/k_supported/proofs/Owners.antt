@@ -53,7 +53,8 @@ record AreLocks (p : At) : Type 0 where
   list : locks_at p ≡ three table thread ready
   look : (look_at p).locks ≡ held_three table thread ready
 
-locks : (p : At) (t : Bool) (n : Option ℕ) (r : Bool) → locks_at p ≡ three t n r → (look_at p).locks ≡ held_three t n r → AreLocks p
+locks : (p : At) (t : Bool) (n : Option ℕ) (r : Bool) → locks_at p ≡ three t n r → (look_at p).locks ≡ held_three t n r →
+    AreLocks p
 locks p t n r e f = record { table = t; thread = n; ready = r; list = e; look = f }
 
 threads_locks : (p : At) → is_threads p ≡ true → AreLocks p
@@ -240,5 +241,6 @@ module _ (g : Programs) (b : Board) (w : World) (pair : IsPair g b w) where
       held = owner_holds l owner e;
       above = λ help f held. (let h = helped w c i asked help f held in
           subst (λ r. r < rank_by (holds w (name_of b.size owner) (Some lock.Table)) (Some l)) (sym h.rank)
-          (rank_above (holds w (name_of b.size owner) (Some lock.Table)) (w.threads.locks i) l (wanted_above l wants) help.lock h.has));
+          (rank_above (holds w (name_of b.size owner) (Some lock.Table)) (w.threads.locks i) l (wanted_above l wants) help.lock
+          h.has));
     }

@@ -1,17 +1,14 @@
 -- A push is told only where a location pushes a thread.
-use Rattle.std.proofs.Common.{◌≡◌, ℕ, Bool, true, false, refl, sym, ap, ◌∙◌, Option, Some, None, arith}
+use Rattle.std.proofs.Common.{◌≡◌, ℕ, Bool, true, false, refl, sym, ap, ◌∙◌, Option, arith}
 use Rattle.std.specs.Prelude.{if◌then◌else◌}
 use Rattle.std.proofs.lemmas.Bool.{false≢true}
 use Rattle.std.proofs.lemmas.Grind.{common_steps}
 use Rattle.k_ids.specs.declared.state_word.StateWord.{StateWord}
-use Rattle.k_locks.specs.Asks.{Ask, Response}
-use Rattle.k_locks.specs.Asks as asks
+use Rattle.k_locks.specs.Asks.{Response}
 use Rattle.k_locks.specs.Hands.{Hand}
-use Rattle.k_locks.specs.declared.locks.Lock.{Lock}
 use Rattle.k_locks.specs.declared.steps.Went.{Went}
 use Rattle.k_locks.specs.declared.steps.Went.TheVariants as went
 use Rattle.k_ipc.specs.declared.receive.ReceiveCall.{ReceiveCall}
-use Rattle.k_ipc.specs.declared.receive.ReceivePushing.TheVariants as receive_pushing
 use Rattle.k_ipc.specs.declared.send.SendCall.{SendCall}
 use Rattle.k_ipc.specs.declared.send.SendPushing.TheVariants as send_pushing
 use Rattle.k_ipc.specs.ReceiveTable.{ReceiveAt}
@@ -20,7 +17,6 @@ use Rattle.k_ipc.specs.SendTable.{SendAt}
 use Rattle.k_ipc.specs.SendTable as send
 use Rattle.k_threads.specs.declared.create.CreateCall.{CreateCall}
 use Rattle.k_threads.specs.declared.destroy.DestroyCall.{DestroyCall}
-use Rattle.k_threads.specs.declared.destroy.DestroyPushing.TheVariants as destroy_pushing
 use Rattle.k_threads.specs.CreateTable.{CreateAt}
 use Rattle.k_threads.specs.CreateTable as create
 use Rattle.k_threads.specs.DestroyTable.{DestroyAt}

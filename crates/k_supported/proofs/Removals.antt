@@ -38,7 +38,8 @@ table_below held e (Some lock.Ready) has =
     absurd (false≢true (ap (λ (x : HeldLocks). has_lock x (Some lock.Ready)) (sym e) ∙ has))
 
 module _ (g : Programs) (b : Board) (w : World) (pair : IsPair g b w) (victims : HasVictims w) (c i : ℕ) (call : DestroyCall)
-    (asked : IsAsked w c (OfThread i)) (at : (b.context i).at ≡ InDestroy call (destroy.Locked destroy_locked.RemoveContext)) where
+    (asked : IsAsked w c (OfThread i))
+    (at : (b.context i).at ≡ InDestroy call (destroy.Locked destroy_locked.RemoveContext)) where
   abbrev n : ℕ
   n = call.who.number
 

@@ -164,7 +164,8 @@ taken_told n context_word.Empty i d v e f = cc
 
 module _ (tables : ThreadTables) (script : Script) (g : Programs) (m : Memory) (b : Board) (v : World) (c n size : ℕ)
     (t : ThreadSeen) (goal : Option Goal) (r : Ran) (sh : Shows script m b) (pair : IsPair g b v) (victims : HasVictims v)
-    (alone : IsAlone v c) (asked : IsAsked v c (OfThread n)) (found : context_in m.context m.slot m.hand n ≡ Some (Thread t)) (made : (b.context n).at ≡ Coming → ⊥)
+    (alone : IsAlone v c) (asked : IsAsked v c (OfThread n))
+    (found : context_in m.context m.slot m.hand n ≡ Some (Thread t)) (made : (b.context n).at ≡ Coming → ⊥)
     (same : size ≡ b.size) (spelled : IsSpelled script.table (ask_in t.id t.own t.activity))
     (words : (id : ThreadId) → ask_in t.id t.own t.activity ≡ asks.Remove id →
     word_of v (OfThread id.number) ≡ context_word_of (m.context id.number)) where

@@ -44,8 +44,8 @@ use k_threads::{
     left_is_the_most_that_a_create_makes, left_is_the_most_that_a_destroy_makes,
 };
 
-/// Where a context in a carrier's hand asks for a lock that is owned, its owner holds it, and it ranks above what the carrier helps
-/// the context for.
+/// Where a context in a carrier's hand asks for a lock that is owned, its owner holds it, and it ranks above what the carrier
+/// helps the context for.
 pub fn who_wants_a_lock_is_held_up()
     ensures { (g : Programs) (b : Board) (w : World) (c i owner : ℕ) (l : Lock) → IsPair g b w → IsAsked w c (OfThread i)
         → want_at (b.context i).own (b.context i).at ≡ Some (want_for l) → owner_of b l ≡ Some owner
@@ -57,9 +57,10 @@ pub fn who_wants_a_lock_is_held_up()
     left_is_the_most_that_a_destroy_makes();
 }
 
-/// A step that the raw world has to make again waits for what is held, and this ranks above what the carrier helps for. That is said
-/// of a thread's context which the world shows on a good board, while no other carrier has a context in hand. A thread that works
-/// has work left; and one above the goal is told of only where a location puts a thread into a ready list.
+/// A step that the raw world has to make again waits for what is held, and this ranks above what the carrier helps for. That is
+/// said of a thread's context which the world shows on a good board, while no other carrier has a context in hand. A thread that
+/// works has work left; and one above the goal is told of only where a location puts a thread into a ready list. The first step
+/// of a call removes no context.
 pub fn who_waits_is_held_up()
     ensures waits { (script : Script) (g : Programs) (m : Memory) (b : Board) (w : World) (c n size : ℕ) (t : ThreadSeen)
         (goal : Option Goal) (r : Ran) → Shows script m b → IsPair g b w → HasVictims w → IsAlone w c

@@ -1,0 +1,4 @@
+pub mod Lines
+pub mod Good
+pub mod Carriers
+pub mod Scheduled

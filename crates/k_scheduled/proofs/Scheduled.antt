@@ -1,6 +1,7 @@
 -- The kernel keeps the laws of a schedule: put together from what each move keeps, how a burst's work falls, and how a run ends.
 use Rattle.std.proofs.Common.{◌≡◌, ◌≢◌, ℕ, ◌<◌, true, false, length, arith}
 use Rattle.k_script.specs.declared.lines.AtWhat.{AtWhat}
+use Rattle.k_script.specs.declared.lines.AtWhat.TheVariants as what
 use Rattle.k_script.specs.Script.{Script}
 use Rattle.k_carrier.specs.Flags.{has_hand, is_settled}
 use Rattle.k_carrier.specs.Starts.{is_due}
@@ -29,6 +30,14 @@ IsOnlyHand w c = (d : ℕ) → d < length w.carriers → d ≢ c → has_hand (c
 
 abbrev pub OthersRest : World → ℕ → Type 0
 OthersRest w c = (d : ℕ) → d < length w.carriers → d ≢ c → is_settled (carrier_at w d) ≡ true
+
+-- an event leaves who is fresh, as a start and the end of a slice do
+pub fresh_after : (script : Script) (IsFresh : World → ℕ → Type 0) →
+    ((w : World) (c number i : ℕ) → IsFresh w i → IsFresh (started c number w) i) →
+    ((w : World) (c i : ℕ) → IsFresh w i → IsFresh (sliced c w) i) → (w : World) (event : AtWhat) (c i : ℕ) → IsFresh w i →
+    IsFresh (happens (kernel_carriers script) w c event) i
+fresh_after script IsFresh start slice w (what.Start number) c i f = start w c number i f
+fresh_after script IsFresh start slice w (what.Slice carrier) c i f = slice w carrier i f
 
 module _ (script : Script) (parts : World → ℕ → Parts) (IsFresh : World → ℕ → Type 0) (IsFinished : World → Type 0) where
   -- How a burst's work falls, and how bursts end.

@@ -6,8 +6,11 @@ use Rattle.k_script.specs.declared.lines.AtLine.{AtLine}
 use Rattle.k_script.specs.Limits.{IsAtLine, started}
 use Rattle.k_script.specs.Script.{Script}
 use Rattle.k_carrier.specs.Starts.{is_due}
-use Rattle.k_world.specs.Worlds.{World}
+use Rattle.k_world.specs.Worlds.{World, carrier_at}
+use Rattle.k_schedule.specs.Carriers.{Facts}
 use Rattle.k_running.specs.Running.{KernelHolds}
+use Rattle.k_lowered.specs.Lowered.{parts_in}
+use Rattle.k_ending.specs.Ending.{IsAtEnd, IsFreshIn}
 
 -- how often the lines start the thread of this number
 abbrev pub times_started : ℕ → List AtLine → ℕ
@@ -22,3 +25,12 @@ pub record IsGoodAt (script : Script) (w : World) (lines : List AtLine) : Type 0
   pub starts : (number : ℕ) → times_started number lines ≡ one_if (is_due w.unstarted number)
   -- They name threads and carriers of the script.
   pub events : AllByRecursion (IsAtLine script.carriers (length script.threads)) lines
+
+abbrev pub kernel_facts : Script → Facts World
+kernel_facts script = record {
+  IsGood = IsGoodAt script;
+  IsFinished = IsAtEnd script;
+  putting = λ w c. (carrier_at w c).putting;
+  parts = parts_in script;
+  IsFresh = IsFreshIn script;
+}

@@ -11,5 +11,6 @@
 mod laws;
 
 pub use laws::{
-    a_script_within_the_limit_has_room, the_first_world_is_good, the_next_start_is_due,
+    a_script_within_the_limit_has_room, the_first_world_is_good, the_kernel_keeps_the_schedule,
+    the_next_start_is_due,
 };

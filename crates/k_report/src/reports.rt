@@ -1,7 +1,9 @@
 // The report of a run.
-ghost use Rattle.std.specs.Prelude.{◌≡◌, ◌++◌, codes};
+ghost use Rattle.std.specs.Prelude.{◌≡◌, ◌++◌, codes, length};
+ghost use Rattle.std.specs.List.{count_by};
+ghost use Rattle.k_calls.specs.Calls.{is_helped};
 ghost use Rattle.k_outside.specs.Outside.{HasCause, PutsAll};
-ghost use Rattle.k_report.specs.Report.{calls_text, report_text, titled};
+ghost use Rattle.k_report.specs.Report.{calls_text, report_text, titled, total_text};
 ghost use Rattle.k_report.specs.Waits.{waits_text};
 
 use crate::totals::{Totals, helped};
@@ -48,6 +50,15 @@ pub fn report<K: Sink>(end: &RunParts<'_>, show: bool, sink: &mut K) -> Result<(
     put_calls(end.calls, show, sink)?;
     put_all_waits(end.waits, end.links, sink)?;
     put_each(sink, end.finals)?;
+    put_total(end, sink)
+}
+
+/// Puts the last line of the report of a run alone: how many events and how many atomic steps it has, and how many of these were
+/// made for another one than their owner. The line is one piece.
+pub fn put_total<K: Sink>(end: &RunParts<'_>, sink: &mut K) -> Result<(), Failed>
+    ensures bytes { PutsAll (K.held sink.old) (K.held sink.new) result (total_text (length end.now.history.now) end.now.made (count_by is_helped end.now.steps.now)) }
+    ensures cause { HasCause (K.faults sink.old) (K.faults sink.new) result }
+{
     let totals = Totals {
         events: end.history.len() as u64,
         steps: end.made,

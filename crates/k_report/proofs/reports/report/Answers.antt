@@ -1,9 +1,7 @@
-use Rattle.std.proofs.Common.{ℕ, length, subst}
 use Rattle.std.specs.List.{flat_map}
 use Rattle.std.proofs.lemmas.Result.{err_from_is_err_and}
-use Rattle.k_outside.specs.Outside.{PutsAll}
 use Rattle.k_text.specs.Texts.{final_text}
-use Rattle.k_report.specs.Report.{Reported, calls_text, report_text, total_text}
+use Rattle.k_report.specs.Report.{Reported, calls_text, report_text}
 use Rattle.k_report.proofs.Parts.{begun, calls_put, finals_put, from_calls, from_finals, from_replies, from_totals, from_waits, history_part, history_put, replies_part, replies_put, waits_part, waits_put}
 use Rattle.k_report.proofs.Putting.{still_front, still_last}
 use Rattle.k_report.proofs.reports.report.Goals as goal
@@ -88,6 +86,5 @@ returns-clause-bytes g c =
     let after_waits = waits_put s0 s3 s4 c.args.show r after_calls c.in_ok-put_all_waits.ensures.bytes in
     let s5 = g.K.Sink.held c.put_each.new.sink in
     let after_finals = finals_put s0 s4 s5 c.args.show r after_waits c.in_ok-put_each.ensures.bytes in
-    let s6 = g.K.Sink.held c.put_line.new.sink in
-    still_last s0 s5 s6 c.put_line.result (report_text c.args.show r) (from_totals r) after_finals
-    (subst (λ (n : ℕ). PutsAll s5 s6 c.put_line.result (total_text (length r.history) r.made n)) c.helped.ensures c.put_line.ensures.bytes)
+    let s6 = g.K.Sink.held c.put_total.new.sink in
+    still_last s0 s5 s6 c.put_total.result (report_text c.args.show r) (from_totals r) after_finals c.put_total.ensures.bytes

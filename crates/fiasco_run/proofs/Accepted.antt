@@ -1,22 +1,21 @@
--- Bytes that are a text of a script within the limits have no fault, and if the script is one that is run, none for a run.
-use Rattle.std.proofs.Common.{◌≡◌, ◌≤◌, ℕ, List, length, None, nat_lt, false, refl, arith}
+-- Bytes that are a text of a script within the limits have no fault.
+use Rattle.std.proofs.Common.{◌≡◌, ◌≤◌, ℕ, List, length, None, nat_lt, false, subst, sym, arith, Result, Ok, Err}
+use Rattle.std.specs.Prelude.{IfOk}
 use Rattle.std.proofs.lemmas.Bool.Decides.{nat_tests}
 use Rattle.k_input.specs.Taken.{most_bytes}
 use Rattle.k_input.specs.Division.{script_part}
+use Rattle.k_script.specs.Big.{big_of}
 use Rattle.k_script.specs.Script.{Script}
 use Rattle.k_script.specs.Weight.{weight_of}
 use Rattle.k_reader.specs.Refused.{most_weight, script_fault}
-use Rattle.k_reader.specs.Later.{later_line}
 use Rattle.k_reader.proofs.Converse.{text-read}
-use Rattle.k_reader.proofs.Runs.{nothing-later, all-run}
-use Rattle.k_reader.specs.Grammar.{IsText}
-use Rattle.k_ids.specs.declared.threads.Found.{Found}
 use Rattle.k_ids.specs.declared.histories.Entry.{Entry}
-use Rattle.k_ids.specs.declared.histories.ReplyLine.{ReplyLine}
-use Rattle.k_play.specs.Reports.{IsRun}
+use Rattle.k_replay.specs.Reports.{IsRun}
+use Rattle.k_dispatch.specs.declared.dispatch.RunEnd.{RunEnd}
+use Rattle.k_dispatch.specs.Outcome.{IsOutcome}
 use Rattle.k_history.specs.declared.verdict.Verdict.{Verdict}
-use Rattle.fiasco_run.specs.Scripts.{IsRunnable, IsScriptOf, run_fault}
-use Rattle.fiasco_run.specs.Due.{IsVerdictOnBytes, IsRunOfBytes}
+use Rattle.fiasco_run.specs.Scripts.{IsScriptOf}
+use Rattle.fiasco_run.specs.Due.{IsBigRun, IsRunOfBytes, IsVerdictOnBytes}
 
 pub script_accepted : (bytes : List ℕ) (s : Script) → IsScriptOf bytes s → script_fault bytes ≡ None
 script_accepted bytes s h =
@@ -24,20 +23,22 @@ script_accepted bytes s h =
     let within : nat_lt most_weight (weight_of s) ≡ false = grind (arith, nat_tests) in
     rw (text-read bytes s h.text, within)
 
-runnable : (bytes : List ℕ) (s : Script) → IsText bytes s → later_line bytes ≡ None → IsRunnable s
-runnable bytes s h e =
-    let all = nothing-later bytes s h e in
-    record { version = all.0; carriers = all.1; at_lines = all.2; turns = all.3 }
+-- The history of an outcome is the one that is replayed.
+replayed : (s : Script) (end : RunEnd) → IsOutcome s end → IsRun s end.history.items end.replies.items end.finals.items
+replayed s end h = subst (λ (entries : List Entry). IsRun s entries end.replies.items end.finals.items) (sym h.history) h.replayed
 
--- A run of a script whose text has no later line.
-pub run_had : (bytes : List ℕ) (s : Script) (history : List Entry) (replies : List ReplyLine) (finals : List Found) → length bytes ≤ most_bytes → IsScriptOf bytes s → later_line bytes ≡ None → IsRun s history replies finals → IsRunOfBytes bytes history replies finals
-run_had bytes s history replies finals small h e run = record { small = small; script = s; spelled = h; runnable = runnable bytes s h.text e; run = run }
+pub run_had : (bytes : List ℕ) (s : Script) (end : RunEnd) → length bytes ≤ most_bytes → IsScriptOf bytes s → IsOutcome s end → IsRunOfBytes bytes s end
+run_had bytes s end small h outcome = record { small = small; spelled = h; outcome = outcome; replayed = replayed s end outcome }
 
-pub run_accepted : (bytes : List ℕ) (s : Script) → IsScriptOf bytes s → IsRunnable s → run_fault bytes ≡ None
-run_accepted bytes s h r = rw (script_accepted bytes s h) (rw (all-run bytes s h.text r.version r.carriers r.at_lines r.turns) refl)
+big_had : (number : ℕ) (end : RunEnd) → IsOutcome (big_of number) end → IsBigRun number end
+big_had number end outcome = record { outcome = outcome; replayed = replayed (big_of number) end outcome }
 
-pub run_of : (bytes : List ℕ) (history : List Entry) (replies : List ReplyLine) (finals : List Found) → IsRunOfBytes bytes history replies finals → run_fault bytes ≡ None
-run_of bytes history replies finals h = run_accepted bytes h.script h.spelled h.runnable
+pub big_run : {E : Type 0} (number : ℕ) (s : Script) (r : Result RunEnd E) → s ≡ big_of number → IfOk r (λ end. IsOutcome s end) → IfOk r (IsBigRun number)
+big_run number s (Ok end) same h = big_had number end (subst (λ (t : Script). IsOutcome t end) same h)
+big_run number s (Err e) same h = tt
+
+pub run_of : (bytes : List ℕ) (s : Script) (end : RunEnd) → IsRunOfBytes bytes s end → script_fault bytes ≡ None
+run_of bytes s end h = script_accepted bytes s h.spelled
 
 pub judged_in : (bytes : List ℕ) (v : Verdict) → IsVerdictOnBytes bytes v → script_fault (script_part bytes) ≡ None
 judged_in bytes v h = script_accepted (script_part bytes) h.script h.spelled

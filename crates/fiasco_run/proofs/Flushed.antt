@@ -12,7 +12,7 @@ use Rattle.fiasco_run.specs.Due.{exit_of}
 use Rattle.fiasco_run.specs.Served.{IsCalm, IsPut, IsPutAlone, IsPutText, IsServed, SinkUse, SourceUse}
 use Rattle.fiasco_run.specs.Headline.{IsAnswered, IsAnsweredOrShort}
 use Rattle.fiasco_run.specs.Calls.{call_of}
-use Rattle.fiasco_run.proofs.Exact.{check_done, exact, run_done}
+use Rattle.fiasco_run.proofs.Exact.{big_done, check_done, exact, run_done}
 
 -- What is done has no fault of the source,
 calm_source : (d : Due) (e : Exit) (a b : ℕ) → e ≡ exit_of d → e ≡ exit.Done → IsCalm d a b → b ≡ a
@@ -28,6 +28,7 @@ pub answered_of : (asked : Option Call) (e : Exit) (u : SourceUse) (v : SinkUse)
 answered_of asked e u v h = record {
   run = run_done asked h.what e u.given v.held v.holds u.before u.now v.before v.now h.cause h.put;
   check = check_done asked h.what e u.given v.held v.holds u.before u.now v.before v.now h.cause h.put;
+  big = big_done asked h.what e u.given v.held v.holds u.before u.now v.before v.now h.cause h.put;
   served = h;
   exact = exact asked h.what e u.given v.held v.holds u.before u.now v.before v.now h.cause h.put;
   done = no_faults h.what e v.held v.holds u.before u.now v.before v.now h.put h.calm;

@@ -45,3 +45,4 @@ one_check scripts verdicts bytes a b (inr x) (inr y) = one_part scripts verdicts
 pub one_exit : OneScript → OneVerdict → (c : Call) (bytes : List ℕ) (a b : Exit) → IsExit c bytes a → IsExit c bytes b → a ≡ b
 one_exit scripts verdicts call.Run bytes a b x y = one_run bytes a b x y
 one_exit scripts verdicts call.Check bytes a b x y = one_check scripts verdicts bytes a b x y
+one_exit scripts verdicts (call.Big number) bytes a b x y = x ∙ sym y

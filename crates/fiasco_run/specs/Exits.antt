@@ -29,7 +29,6 @@ why_word why.Number = codes "number"
 why_word why.Unknown = codes "unknown"
 why_word why.Table = codes "table"
 why_word why.Many = codes "many"
-why_word why.Later = codes "later"
 
 -- The words of the line that says why an input is refused.
 abbrev pub refusal_words : ScriptFault → List Word

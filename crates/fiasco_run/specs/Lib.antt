@@ -1,6 +1,7 @@
 pub mod Calls
 pub mod Exits
 pub mod Scripts
+pub mod Reported
 pub mod Due
 pub mod Served
 pub mod Headline

@@ -15,7 +15,7 @@ use Rattle.fiasco_run.specs.declared.exit.Exit.{Exit}
 use Rattle.fiasco_run.specs.declared.exit.Exit.TheVariants as exit
 use Rattle.fiasco_run.specs.declared.due.Due.{Due}
 use Rattle.k_reader.specs.Refused.{script_fault}
-use Rattle.fiasco_run.specs.Scripts.{IsScriptOf, run_fault}
+use Rattle.fiasco_run.specs.Scripts.{IsScriptOf}
 use Rattle.fiasco_run.specs.Due.{ComesTo, exit_of, text_of}
 use Rattle.fiasco_run.specs.Exits.{exit_text}
 
@@ -33,44 +33,49 @@ pub record SinkUse : Type 0 where
   pub before : ℕ  -- faults before
   pub now : ℕ  -- faults after
 
--- HOW MUCH OF THE SOURCE is taken: nothing where the words ask for no call; all of it where the bytes were read; where they are
--- too many, up to the first byte that makes it certain, or to the end where none does; and otherwise a front.
+-- HOW MUCH OF THE SOURCE is taken: nothing where the words ask for no call, or for one that reads nothing; all of it where the
+-- bytes were read; where they are too many, up to the first byte that makes it certain, or to the end where none does; and
+-- otherwise a front.
 
 -- All of the source was taken.
 abbrev pub TakesAll : Option (List ℕ) → Option (List ℕ) → Type 0
 TakesAll given left = IfSome given (λ _. left ≡ Some [])
 
--- How many bytes a call takes at most.
-abbrev pub most_taken : Call → ℕ
-most_taken call.Run = most_bytes + 1
-most_taken call.Check = most_input + 1
+-- What a call takes that reads bytes: at most so many, and this much if they are too many.
+pub record Reads : Type 1 where
+  pub most : ℕ
+  pub IsLarge : Option (List ℕ) → Option (List ℕ) → Type 0
 
--- What is taken if there are too many bytes for the call: up to the byte that makes it certain.
-abbrev pub TakesLarge : Call → Option (List ℕ) → Option (List ℕ) → Type 0
-TakesLarge call.Run given left = IsTooMuch given left
-TakesLarge call.Check given left = IsInputTooLarge given left
+-- `run` and `check`: up to the byte that makes it certain that there are too many.
+abbrev pub run_reads : Reads
+run_reads = record { most = most_bytes + 1; IsLarge = IsTooMuch }
+
+abbrev pub check_reads : Reads
+check_reads = record { most = most_input + 1; IsLarge = IsInputTooLarge }
 
 -- What is taken if the input is refused for this fault.
-abbrev pub TakesRefused : Call → ScriptFault → Option (List ℕ) → Option (List ℕ) → Type 0
-TakesRefused c fault.TooLarge given left = TakesLarge c given left
-TakesRefused c (fault.Line line reason) given left = TakesAll given left
-TakesRefused c (fault.TooLong steps) given left = TakesAll given left
-TakesRefused c fault.NoMemory given left = IsPartTaken (most_taken c) given left
+abbrev pub TakesRefused : Reads → ScriptFault → Option (List ℕ) → Option (List ℕ) → Type 0
+TakesRefused r fault.TooLarge given left = r.IsLarge given left
+TakesRefused r (fault.Line line reason) given left = TakesAll given left
+TakesRefused r (fault.TooLong steps) given left = TakesAll given left
+TakesRefused r fault.NoMemory given left = IsPartTaken r.most given left
 
 -- What is taken if the call comes to this status.
-abbrev pub TakesStatus : Call → Exit → Option (List ℕ) → Option (List ℕ) → Type 0
-TakesStatus c exit.Done given left = TakesAll given left
-TakesStatus c (exit.Refused f) given left = TakesRefused c f given left
-TakesStatus c exit.Usage given left = left ≡ given
-TakesStatus c exit.ReadFault given left = IsPartTaken (most_taken c) given left
-TakesStatus c exit.WriteFault given left = IsPartTaken (most_taken c) given left
-TakesStatus c exit.NoMemory given left = IsPartTaken (most_taken c) given left
-TakesStatus c (exit.Illegal v) given left = TakesAll given left
+abbrev pub TakesStatus : Reads → Exit → Option (List ℕ) → Option (List ℕ) → Type 0
+TakesStatus r exit.Done given left = TakesAll given left
+TakesStatus r (exit.Refused f) given left = TakesRefused r f given left
+TakesStatus r exit.Usage given left = left ≡ given
+TakesStatus r exit.ReadFault given left = IsPartTaken r.most given left
+TakesStatus r exit.WriteFault given left = IsPartTaken r.most given left
+TakesStatus r exit.NoMemory given left = IsPartTaken r.most given left
+TakesStatus r (exit.Illegal v) given left = TakesAll given left
 
 -- What is taken if this is what is due.
 abbrev pub TakesFor : Option Call → Due → Option (List ℕ) → Option (List ℕ) → Type 0
 TakesFor None d given left = left ≡ given
-TakesFor (Some c) d given left = TakesStatus c (exit_of d) given left
+TakesFor (Some call.Run) d given left = TakesStatus run_reads (exit_of d) given left
+TakesFor (Some call.Check) d given left = TakesStatus check_reads (exit_of d) given left
+TakesFor (Some (call.Big number)) d given left = left ≡ given
 
 -- WHAT IS PUT: the text that is due, the status is that of what is due, and the sink never failed; or a front of that text, and
 -- the sink failed.
@@ -110,7 +115,7 @@ run_status (Some f) = exit.Refused f
 
 -- The status that `run` has for these bytes.
 abbrev pub IsRunExit : List ℕ → Exit → Type 0
-IsRunExit bytes e = ((most_bytes < length bytes) × (e ≡ exit.Refused fault.TooLarge)) ⊎ ((length bytes ≤ most_bytes) × (e ≡ run_status (run_fault bytes)))
+IsRunExit bytes e = ((most_bytes < length bytes) × (e ≡ exit.Refused fault.TooLarge)) ⊎ ((length bytes ≤ most_bytes) × (e ≡ run_status (script_fault bytes)))
 
 -- The status of this verdict.
 abbrev pub verdict_status : Verdict → Exit
@@ -138,10 +143,11 @@ IsPartExit (Some f) bytes e = e ≡ exit.Refused f
 abbrev pub IsCheckExit : List ℕ → Exit → Type 0
 IsCheckExit bytes e = (IsInputLarge bytes × (e ≡ exit.Refused fault.TooLarge)) ⊎ ((¬ IsInputLarge bytes) × IsPartExit (script_fault (script_part bytes)) bytes e)
 
--- The one status that these bytes call for.
+-- The one status that these bytes call for. The script of `big` is always one that is run.
 abbrev pub IsExit : Call → List ℕ → Exit → Type 0
 IsExit call.Run bytes e = IsRunExit bytes e
 IsExit call.Check bytes e = IsCheckExit bytes e
+IsExit (call.Big number) bytes e = e ≡ exit.Done
 
 -- EXACTLY WHERE: the status is the one that the bytes call for, unless there was no memory, or the source or the sink failed.
 abbrev pub IsOrFault : Exit → (Exit → Type 0) → Type 0 → Type 0 → Type 0
@@ -156,4 +162,6 @@ IsOrFault (exit.Illegal v) P read write = P (exit.Illegal v)
 -- The call asked for has the status that the bytes call for, or there was no memory or the outside failed.
 abbrev pub IsExact : Option Call → Exit → Option (List ℕ) → Type 0 → Type 0 → Type 0
 IsExact None e given read write = (e ≡ exit.Usage) ⊎ ((e ≡ exit.WriteFault) × write)
-IsExact (Some c) e given read write = IfSome given (λ bytes. IsOrFault e (IsExit c bytes) read write)
+IsExact (Some call.Run) e given read write = IfSome given (λ bytes. IsOrFault e (IsExit call.Run bytes) read write)
+IsExact (Some call.Check) e given read write = IfSome given (λ bytes. IsOrFault e (IsExit call.Check bytes) read write)
+IsExact (Some (call.Big number)) e given read write = IsOrFault e (IsExit (call.Big number) []) ⊥ write

@@ -5,8 +5,7 @@ ghost use Rattle.k_history.specs.declared.verdict.Verdict.TheVariants as verdict
 ghost use Rattle.fiasco_run.specs.Due.{IsCheckStatus, IsVerdictOnSource, IsVerdictOnBytes};
 ghost use Rattle.k_reader.specs.Refused.{script_fault};
 ghost use Rattle.fiasco_run.specs.Scripts.{IsRefusedBy};
-ghost use Rattle.fiasco_run.specs.Served.{TakesAll, TakesStatus};
-ghost use Rattle.fiasco_run.specs.declared.call.Call.TheVariants as call;
+ghost use Rattle.fiasco_run.specs.Served.{TakesAll, TakesStatus, check_reads};
 
 use crate::exit::Exit;
 use crate::run::{exit_of, script_in};
@@ -30,7 +29,7 @@ fn judge_source<S: Source>(alloc: Global, source: &mut S) -> Result<Verdict, Exi
     ensures judged { IfOk result (IsVerdictOnSource (S.left source.old)) }
     ensures status { IfErr result (IsCheckStatus (S.left source.old) (S.faults source.old) (S.faults source.new)) }
     ensures all { IfOk result (λ _. TakesAll (S.left source.old) (S.left source.new)) }
-    ensures takes { IfErr result (λ exit. TakesStatus call.Check exit (S.left source.old) (S.left source.new)) }
+    ensures takes { IfErr result (λ exit. TakesStatus check_reads exit (S.left source.old) (S.left source.new)) }
     ensures calm { result ≡ Err Exit.ReadFault ⊎ S.faults source.new ≡ S.faults source.old }
     ensures later { S.faults source.old ≤ S.faults source.new }
 {
@@ -45,7 +44,7 @@ pub(crate) fn check_source<S: Source>(alloc: Global, source: &mut S) -> Result<u
     ensures legal { IfOk result (λ events. IsVerdictOnSource (S.left source.old) (verdict.Legal events)) }
     ensures status { IfErr result (IsCheckStatus (S.left source.old) (S.faults source.old) (S.faults source.new)) }
     ensures all { IfOk result (λ _. TakesAll (S.left source.old) (S.left source.new)) }
-    ensures takes { IfErr result (λ exit. TakesStatus call.Check exit (S.left source.old) (S.left source.new)) }
+    ensures takes { IfErr result (λ exit. TakesStatus check_reads exit (S.left source.old) (S.left source.new)) }
     ensures calm { result ≡ Err Exit.ReadFault ⊎ S.faults source.new ≡ S.faults source.old }
     ensures later { S.faults source.old ≤ S.faults source.new }
 {

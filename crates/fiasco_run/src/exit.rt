@@ -100,7 +100,6 @@ fn why_word(why: Why) -> &'static [u8]
         Why::Unknown => b"unknown",
         Why::Table => b"table",
         Why::Many => b"many",
-        Why::Later => b"later",
     }
 }
 

@@ -1,14 +1,12 @@
 // Laws of the definitions.
 ghost use Rattle.std.specs.Prelude.{◌≡◌, List, ℕ, None};
-ghost use Rattle.k_ids.specs.declared.threads.Found.{Found};
-ghost use Rattle.k_ids.specs.declared.histories.Entry.{Entry};
-ghost use Rattle.k_ids.specs.declared.histories.ReplyLine.{ReplyLine};
+ghost use Rattle.k_script.specs.Script.{Script};
+ghost use Rattle.k_dispatch.specs.declared.dispatch.RunEnd.{RunEnd};
 ghost use Rattle.k_input.specs.Division.{script_part};
 ghost use Rattle.k_reader.specs.Refused.{script_fault};
 ghost use Rattle.k_history.specs.declared.verdict.Verdict.{Verdict};
 ghost use Rattle.fiasco_run.specs.declared.call.Call.{Call};
 ghost use Rattle.fiasco_run.specs.declared.exit.Exit.{Exit};
-ghost use Rattle.fiasco_run.specs.Scripts.{run_fault};
 ghost use Rattle.fiasco_run.specs.Due.{IsRunOfBytes, IsVerdictOnBytes};
 ghost use Rattle.fiasco_run.specs.Served.{IsExit};
 
@@ -24,9 +22,8 @@ pub fn bytes_call_for_one_status()
     a_history_has_one_verdict();
 }
 
-/// Bytes of which a run is told have no fault, not even a line that can't be run yet; and what stands before the line `--` of an
-/// input that is judged has none.
+/// Bytes of which a run is told have no fault; and what stands before the line `--` of an input that is judged has none.
 pub fn what_is_served_is_accepted()
-    ensures run { (bytes : List ℕ) (history : List Entry) (replies : List ReplyLine) (finals : List Found) → IsRunOfBytes bytes history replies finals → run_fault bytes ≡ None }
+    ensures run { (bytes : List ℕ) (script : Script) (end : RunEnd) → IsRunOfBytes bytes script end → script_fault bytes ≡ None }
     ensures check { (bytes : List ℕ) (v : Verdict) → IsVerdictOnBytes bytes v → script_fault (script_part bytes) ≡ None }
 {}

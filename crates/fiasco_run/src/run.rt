@@ -1,18 +1,19 @@
-// `run`: from a source to the run of the script that its bytes spell.
+// `run` and `big`: the run of the script that a source's bytes spell, and that of a generated one.
 ghost use Rattle.std.specs.Prelude.{◌≡◌, ◌≤◌, ◌⊎◌, length, None, Err, IfErr, IfOk};
 ghost use Rattle.k_input.specs.Taken.{IsPartTaken};
 ghost use Rattle.k_reader.specs.Refused.{script_fault};
-ghost use Rattle.fiasco_run.specs.Scripts.{IsRefusedBy, IsScriptOf, input_exit, run_fault};
-ghost use Rattle.fiasco_run.specs.Due.{IsRunOfSource, IsRunOfBytes, IsRunStatus};
-ghost use Rattle.fiasco_run.specs.Served.{TakesAll, TakesStatus};
-ghost use Rattle.fiasco_run.specs.declared.call.Call.TheVariants as call;
+ghost use Rattle.fiasco_run.specs.Scripts.{IsRefusedBy, IsScriptOf, input_exit};
+ghost use Rattle.fiasco_run.specs.Due.{IsBigRun, IsRunOfSource, IsRunOfBytes, IsRunStatus};
+ghost use Rattle.fiasco_run.specs.Served.{TakesAll, TakesStatus, run_reads};
 
+use crate::due::Ran;
 use crate::exit::Exit;
+use k_dispatch::{RunEnd, run};
+use k_ids::NoMemory;
 use k_input::{InputFault, read_all};
 use k_outside::Source;
-use k_play::{RunEnd, play_script};
-use k_reader::{ScriptFault, Why, later_line, read};
-use k_script::Script;
+use k_reader::{ScriptFault, read};
+use k_script::{Script, big};
 use std::alloc::Global;
 
 /// The script that these bytes spell, within the limits.
@@ -29,31 +30,24 @@ pub(crate) fn script_in(alloc: Global, bytes: &[u8]) -> Result<Script, Exit>
     }
 }
 
-/// Runs the script that these bytes spell, unless it has a line that can't be run yet.
+/// Runs the script that these bytes spell.
 #[tactic(auto, using(crate::proofs::Accepted::run_had))]
-fn run_bytes(alloc: Global, bytes: &[u8]) -> Result<RunEnd, Exit>
+fn run_bytes(alloc: Global, bytes: &[u8]) -> Result<Ran, Exit>
     requires { length bytes.now ≤ 1048576 }
-    ensures run { IfOk result (λ end. IsRunOfBytes bytes.now end.history.items end.replies.items end.finals.items) }
-    ensures refused { IfErr result (IsRefusedBy (run_fault bytes.now)) }
+    ensures run { IfOk result (λ ran. IsRunOfBytes bytes.now ran.script ran.end) }
+    ensures refused { IfErr result (IsRefusedBy (script_fault bytes.now)) }
 {
     let script = script_in(alloc, bytes)?;
-    match later_line(alloc, bytes) {
-        Ok(None) => play_script(alloc, &script).map_err(|_| Exit::NoMemory),
-        Ok(Some(line)) => {
-            let why = Why::Later;
-            let fault = ScriptFault::Line { line, why };
-            Err(Exit::Refused { fault })
-        }
-        Err(_) => Err(Exit::NoMemory),
-    }
+    let end = run(alloc, &script).map_err(|_| Exit::NoMemory)?;
+    Ok(Ran { script, end })
 }
 
 /// Reads the source and runs the script that its bytes spell.
-pub(crate) fn run_source<S: Source>(alloc: Global, source: &mut S) -> Result<RunEnd, Exit>
-    ensures run { IfOk result (λ end. IsRunOfSource (S.left source.old) end.history.items end.replies.items end.finals.items) }
+pub(crate) fn run_source<S: Source>(alloc: Global, source: &mut S) -> Result<Ran, Exit>
+    ensures run { IfOk result (λ ran. IsRunOfSource (S.left source.old) ran.script ran.end) }
     ensures status { IfErr result (IsRunStatus (S.left source.old) (S.faults source.old) (S.faults source.new)) }
     ensures all { IfOk result (λ _. TakesAll (S.left source.old) (S.left source.new)) }
-    ensures takes { IfErr result (λ exit. TakesStatus call.Run exit (S.left source.old) (S.left source.new)) }
+    ensures takes { IfErr result (λ exit. TakesStatus run_reads exit (S.left source.old) (S.left source.new)) }
     ensures calm { result ≡ Err Exit.ReadFault ⊎ S.faults source.new ≡ S.faults source.old }
     ensures later { S.faults source.old ≤ S.faults source.new }
 {
@@ -61,6 +55,15 @@ pub(crate) fn run_source<S: Source>(alloc: Global, source: &mut S) -> Result<Run
         Ok(bytes) => run_bytes(alloc, &bytes),
         Err(fault) => Err(exit_of(fault)),
     }
+}
+
+/// Runs the large script of this number.
+#[tactic(auto, using(crate::proofs::Large::big_short))]
+pub(crate) fn run_big(alloc: Global, number: u64) -> Result<RunEnd, NoMemory>
+    ensures { IfOk result (IsBigRun number) }
+{
+    let script = big(alloc, number)?;
+    run(alloc, &script)
 }
 
 /// The status of a source that was not read to its end.

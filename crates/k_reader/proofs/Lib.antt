@@ -17,6 +17,3 @@ mod Unresolved
 mod Taken
 mod Scheduled
 pub mod Converse
-mod Firsts
-pub mod Runs
-mod Reasons

@@ -2,4 +2,3 @@ pub mod Draft
 pub mod Reading
 pub mod Refused
 pub mod Grammar
-pub mod Later

@@ -26,9 +26,6 @@ pub enum Why {
     Table,
     #[error("there are too many lines or items of its kind")]
     Many,
-    /// It is a line of a script, with a word that is not run yet. A reading never gives this reason.
-    #[error("a word of it is not run yet")]
-    Later,
 }
 
 /// Why an input is no script.

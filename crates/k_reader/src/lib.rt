@@ -11,22 +11,17 @@
 //!   ([`a_text_is_read`]).
 //! - Else it names the first bad line, with the first of the reasons Word, Order, Nest, Number, Unknown, Table and Many that
 //!   applies; the first line with words has the reason Version, whatever is wrong with it (specs/Reading.antt: `read_of`).
-//! - [`later_line`] tells the first line that is read and that the loop which runs scripts doesn't run yet
-//!   (specs/Later.antt): a text has none exactly where its script is of version 1, with one carrier and no schedule
-//!   ([`nothing_later`]). No reading gives the reason Later.
 //!
 //! Reading takes a time linear in the bytes. A name is looked up among at most 255, and a started thread among at most 64.
 #![tactic(auto)]
 
 mod draft;
 mod fault;
-mod later;
 mod laws;
 mod reader;
 mod resolve;
 mod turns;
 
 pub use fault::{ScriptFault, Why};
-pub use later::later_line;
-pub use laws::{a_text_is_read, nothing_later};
+pub use laws::a_text_is_read;
 pub use reader::read;

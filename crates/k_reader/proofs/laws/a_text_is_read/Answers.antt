@@ -4,7 +4,6 @@ use Rattle.k_reader.specs.Reading.{BadLine}
 use Rattle.k_reader.specs.Grammar.{IsText}
 use Rattle.k_reader.proofs.Meaning.{script-read}
 use Rattle.k_reader.proofs.Converse.{text-read}
-use Rattle.k_reader.proofs.Reasons.{never-later}
 use Rattle.k_reader.proofs.laws.a_text_is_read.Goals as goal
 
 pub returns-clause-read : goal.returns-clause-read
@@ -21,6 +20,3 @@ one bytes s t h i = same_script s t (sym (text-read bytes s h) ∙ text-read byt
 
 pub returns-clause-one : goal.returns-clause-one
 returns-clause-one c = one
-
-pub returns-clause-now : goal.returns-clause-now
-returns-clause-now c = never-later

@@ -1,4 +1,0 @@
-pub mod Invariant
-pub mod Programs
-pub mod Steps
-pub mod Going

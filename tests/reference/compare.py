@@ -1,7 +1,9 @@
 """Compares another program with this one, on scripts made from numbers or on files.
 
-    python3 compare.py [--trace | --json] FIRST COUNT -- COMMAND ..
+    python3 compare.py [--big] [--trace | --json] FIRST COUNT -- COMMAND ..
     python3 compare.py [--trace | --json] FILE .. -- COMMAND ..
+
+With --big the scripts of numbers are the large ones of big.py, and else those of fuzz.py.
 
 COMMAND takes a script on its standard input, and prints a report (or with --trace or --json that trace, as FORMAT.md
 has it). The first line that differs is told, with the lines before it.
@@ -11,6 +13,7 @@ import subprocess
 import sys
 
 import traces
+from big import big
 from fuzz import script_of
 from report import report
 from schedule import Schedule
@@ -46,11 +49,13 @@ def main(words: list) -> int:
         print(__doc__)
         return 2
     divider = words.index("--")
-    forms = [word for word in words[:divider] if word in ("--trace", "--json")]
-    names, command = [word for word in words[:divider] if word not in forms], words[divider + 1 :]
+    options = [word for word in words[:divider] if word in ("--big", "--trace", "--json")]
+    names, command = [word for word in words[:divider] if word not in options], words[divider + 1 :]
+    forms = [word for word in options if word != "--big"]
+    make = big if "--big" in options else script_of
     if len(names) == 2 and all(name.isdigit() for name in names):
         first, count = int(names[0]), int(names[1])
-        scripts = [(str(seed), script_of(seed)) for seed in range(first, first + count)]
+        scripts = [(str(seed), make(seed)) for seed in range(first, first + count)]
     else:
         scripts = [(name, open(name, encoding="latin-1").read()) for name in names]
     differ = 0

@@ -3,5 +3,4 @@ pub mod Inside
 pub mod Judging
 pub mod Lines
 pub mod Reading
-pub mod Report
 pub mod Verdicts

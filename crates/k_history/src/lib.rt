@@ -1,10 +1,8 @@
-//! Histories and reports as text, and the judgement of a history.
+//! Histories as text, and the judgement of a history.
 //!
 //! A history is the sequence of a run's events with their outcomes, one at a time, in an order that every thread agrees
 //! with (Herlihy and Wing, *Linearizability*). [`event_line`] writes one of its lines, and [`read_line`] reads it back: it
-//! answers exactly the entry that a line spells (specs/Fits.antt: `Spells`), and no line spells two. [`report`] puts the whole
-//! report of a run into a sink: the history, the replies, and what each number of the table shows at the end. It takes no
-//! memory, and the sink's own failures are the only ones.
+//! answers exactly the entry that a line spells (specs/Fits.antt: `Spells`), and no line spells two.
 //!
 //! [`check`] judges a history of a script, from wherever it comes. It says [`Verdict::Legal`] exactly where the lines are a
 //! legal history, in which every thread's calls are those of its program, and behind which nothing is to come. Any other
@@ -21,12 +19,10 @@ mod judging;
 mod laws;
 mod lines;
 mod reading;
-mod reports;
 mod verdict;
 mod words;
 
 pub use judging::check;
 pub use laws::{a_history_has_one_verdict, a_line_spells_one_entry};
 pub use lines::{event_line, read_line};
-pub use reports::{RunParts, report};
 pub use verdict::Verdict;

@@ -17,8 +17,8 @@ from pages import filled, marks_of, run, sentence, table
 
 PAGE = ROOT / "docs" / "BELIEVE.md"
 TOP = CRATES / "fiasco_run" / "src" / "serve.rt"
-CLAUSES = ("run", "check", "served", "exact", "later")
-LISTED = ("run", "check")
+CLAUSES = ("run", "check", "big", "served", "exact", "later")
+LISTED = ("run", "check", "big")
 
 
 def own(things):

@@ -45,7 +45,13 @@ class Thing:
 
 @lru_cache(maxsize=None)
 def lines_of(path):
-    return path.read_text(encoding="utf-8").split("\n")
+    """The lines of a file. What stands in a `module _` begins where it would stand without it."""
+    lines, inside = path.read_text(encoding="utf-8").split("\n"), False
+    for at, line in enumerate(lines):
+        inside = line.startswith("module _ ") or inside and (not line or line.startswith("  "))
+        if inside and line.startswith("  "):
+            lines[at] = line[2:]
+    return lines
 
 
 def comment_above(lines, at, mark):

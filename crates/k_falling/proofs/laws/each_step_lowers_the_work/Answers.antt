@@ -20,7 +20,7 @@ returns c = λ script w n limits room h low others unsettled.
     (c.programs_count_their_work.ensures script))
     (record {
       waits = λ m b v d i size t goal. held.waits script (ranged_programs script) m b v d i size t goal _;
-      made = λ m b i size t goal. held.made script m b i size t goal;
+      made = λ m b i size t goal. held.made script m b i size t goal _ _;
     })
     (λ x b v q d. c.the_work_is_that_of_the_board.ensures script x b v q d limits)
     w h n low others after unsettled few.2

@@ -1,4 +1,4 @@
-// Faults of a source and of a sink, a source that gives its bytes in pieces, a script that is cut, and a start before each step.
+// Faults of a source and of a sink, and a source that gives its bytes in pieces.
 // What comes out for which input is told by the cases (docs/CASES.md).
 mod pieces;
 
@@ -6,8 +6,6 @@ use crate::{Exit, top};
 use k_outside::{MemSink, MemSource};
 use pieces::Pieces;
 use std::alloc::Global;
-use std::fmt::Write;
-use std::process::Abort;
 use std::test::Fail;
 
 /// A call and its answer: the server is held up by the client, and helps it.
@@ -16,13 +14,6 @@ const CALL: &str =
 
 const CALL_REPORT: &str =
     "history\n1.1 1 wait -> waits\n0.1 1 call 1.1 7 8 -> passed\n1.1 2 send 0.1 7 8 -> passed\n1.1 3 wait -> waits\n0.1 2 end\nreplies\nreply 0.1 1 got 1.1 7 8\nreply 1.1 1 got 0.1 7 8\nreply 1.1 2 sent\ncalls\ncall 0.1 1 steps 11 helped 1\ncall 0.1 2 steps 1 helped 0\ncall 1.1 1 steps 7 helped 0\ncall 1.1 2 steps 6 helped 0\ncall 1.1 3 steps 5 helped 0\nwaits\nwait 1.1 3 thread 1 got allowed 1 used 1 chain 0.1 1 1\nend 0.1 ended\nend 1.1 receiving any\ntotal events 5 steps 75 helped 1\n";
-
-/// Where the script ends with the line of its first thread.
-const FIRST_THREAD: usize = 103;
-
-/// A send, a receiver of a higher priority, and a destroyer of the highest, which starts after so many steps.
-const DESTROY: &str =
-    "kernel 1\ntable 3\nprogram s\nsend #1 5 6\nend\nprogram r\nwait\nend\nprogram d\ndestroy #0\nend\nthread 10 s\nthread 20 r\nthread 30 d\n";
 
 const BIG: &str = "big 1\ntotal events 2412 steps 44291 helped 805\n";
 
@@ -123,57 +114,6 @@ fn a_source_may_give_its_bytes_in_pieces(rt: HostRuntime) -> Result<(), Fail> {
             assert_eq!(&rt; exit, Exit::Done);
             assert_eq!(&rt; sink.bytes(), output.as_bytes());
         }
-    }
-    Ok(())
-}
-
-/// What a call that is done has put.
-fn done(rt: &(impl Abort + AllocGlobal), text: &str, input: &str) -> Result<String, Fail> {
-    let alloc = rt.alloc();
-    let mut source = source(alloc, input, &[])?;
-    let mut sink = sink(alloc, &[])?;
-    let exit = top(alloc, &words(alloc, text)?, &mut source, &mut sink);
-    assert_eq!(rt; exit, Exit::Done);
-    match str::from_utf8(sink.bytes()) {
-        Ok(put) => Ok(String::from_str(alloc, put)?),
-        Err(_) => panic!(rt; "the text is no text"),
-    }
-}
-
-// A script that is cut is a script behind each of its two thread lines, with and without the line feed, and nowhere else.
-#[test]
-fn a_cut_script_is_run_behind_each_thread_line(rt: HostRuntime) -> Result<(), Fail> {
-    let alloc = rt.alloc();
-    let whole = CALL.len();
-    for end in 0..whole + 1 {
-        let mut source = source(alloc, &CALL[..end], &[])?;
-        let mut sink = sink(alloc, &[])?;
-        let exit = top(alloc, &words(alloc, "run")?, &mut source, &mut sink);
-        let is_whole = end == FIRST_THREAD || end == FIRST_THREAD + 1 || end + 1 >= whole;
-        assert_eq!(&rt; exit.number(), if is_whole { 0 } else { 1 });
-    }
-    Ok(())
-}
-
-// Wherever the destroyer starts, the history is legal, and the sender is killed. Its message has passed from step 24 on.
-#[test]
-fn a_destroyer_may_start_before_each_step(rt: HostRuntime) -> Result<(), Fail> {
-    let alloc = rt.alloc();
-    for step in 0..81u32 {
-        let mut script = String::from_str(alloc, DESTROY)?;
-        write!(script, "at {step} start 2\n")?;
-        let report = done(&rt, "run", &script)?;
-        let (history, _) = report.split_once("replies\n").unwrap();
-        let history = history.strip_prefix("history\n").unwrap();
-        script.push_str("--\n")?;
-        script.push_str(history)?;
-        let verdict = done(&rt, "check", &script)?;
-        assert!(&rt; verdict.starts_with("legal "));
-        assert!(&rt; history.contains("2.1 1 destroy 0.1 -> killed\n"));
-        assert_eq!(&rt;
-            history.contains("0.1 1 send 1.1 5 6 -> passed\n"),
-            step >= 24
-        );
     }
     Ok(())
 }

@@ -6,6 +6,7 @@ use crate::{Exit, top};
 use k_outside::{MemSink, MemSource};
 use pieces::Pieces;
 use std::alloc::Global;
+use std::process::Abort;
 use std::test::Fail;
 
 /// A call and its answer: the server is held up by the client, and helps it.
